@@ -1,0 +1,38 @@
+-- Laws of tests.
+use mathlib.Core.Path.{_≡_, refl, sym}
+use mathlib.Core.Bool.{Bool, true, false, not, _&&_, _||_, Bool·beq, false≢true}
+
+-- by cases on a test, with its equation
+pub split : {C : Type 0} (b : Bool) → (b ≡ true → C) → (b ≡ false → C) → C
+split true f g = f refl
+split false f g = g refl
+
+pub clash : {C : Type 0} {b : Bool} → b ≡ true → b ≡ false → C
+clash {C} {b} t f = let z : false ≡ true = cc in absurd (false≢true z)
+
+pub is-false : (b : Bool) → (b ≡ true → ⊥) → b ≡ false
+is-false true f = absurd (f refl)
+is-false false f = refl
+
+-- two tests that follow from each other are one
+pub agree : (b c : Bool) → (b ≡ true → c ≡ true) → (c ≡ true → b ≡ true) → b ≡ c
+agree true c f g = sym (f refl)
+agree false true f g = g refl
+agree false false f g = refl
+
+pub and-parts : (a b : Bool) → (a && b) ≡ true → (a ≡ true) × (b ≡ true)
+and-parts true b h = (refl, h)
+and-parts false b h = absurd (false≢true h)
+
+pub and-both : {a b : Bool} → a ≡ true → b ≡ true → (a && b) ≡ true
+and-both {a} {b} h k = rw h k
+
+pub or-right : (a b : Bool) → b ≡ true → (a || b) ≡ true
+or-right true b h = refl
+or-right false b h = h
+
+pub beq-same : (a b : Bool) → Bool·beq a b ≡ true → a ≡ b
+beq-same true true h = refl
+beq-same true false h = absurd (false≢true h)
+beq-same false true h = absurd (false≢true h)
+beq-same false false h = refl

@@ -1,0 +1,245 @@
+-- Laws of the list functions.
+use Prim.Native.Nat.{ℕ, zero, suc, _+_, _≤_, _<_}
+use native.Mathlib.Omega.{arith}
+use native.Mathlib.Decide.{ℕ-discrete}
+use mathlib.Core.Path.{_≡_, refl, sym, ap, _∙_, subst}
+use mathlib.Core.Bool.{Bool, true, false, not, cond, _&&_, _||_, and-true, and-assoc, or-false, or-assoc, false≢true}
+use mathlib.Core.List.{List, [], _∷_, _++_, append-nil, List·Memᴰ, List·Memᴰ·head, List·Memᴰ·tail, List·Memᴰ·not-nil, List·Memᴰ·append-cases, Memᴰ·append-left, Memᴰ·append-right}
+use mathlib.Core.Logic.{_⊎_, inl, inr}
+use lib.Dec.{eqb, ltb}
+use lib.ListN.{length}
+use lib.Seq.{append-snoc}
+use borrow.Author.Tests.{eq-eqb, eqb-true, ltb-true}
+use Rattle.base.specs.Lists.{all, any, keep, when, for, count, below, member, distinct}
+use Rattle.base.proofs.Bools.{and-parts}
+
+module _ {A : Type 0} where
+  -- tests that agree on the elements agree on the list
+  pub any-same : (p q : A → Bool) (l : List A) → ((a : A) → List·Memᴰ a l → p a ≡ q a) → any p l ≡ any q l
+  unfolding any
+  any-same p q [] f = refl
+  any-same p q (a ∷ l) f = rw (f a (List·Memᴰ·head refl), any-same p q l (λ b m. f b (List·Memᴰ·tail m)))
+
+  -- a test that follows from another
+  pub any-weaken : (p q : A → Bool) → ((a : A) → p a ≡ true → q a ≡ true) → (l : List A) → any p l ≡ true → any q l ≡ true
+  unfolding any
+  any-weaken p q f [] h = h
+  any-weaken p q f (a ∷ l) h = go (p a) (q a) (f a) (any-weaken p q f l) h
+    where
+      go : (b c : Bool) → (b ≡ true → c ≡ true) → (any p l ≡ true → any q l ≡ true) → (b || any p l) ≡ true → (c || any q l) ≡ true
+      go b true g ih k = refl
+      go true false g ih k = absurd (false≢true (g refl))
+      go false false g ih k = ih k
+
+  -- an element that passes
+  pub any-witness : (p : A → Bool) (l : List A) → any p l ≡ true → (a : A) × List·Memᴰ a l × (p a ≡ true)
+  unfolding any
+  any-witness p [] h = absurd (false≢true h)
+  any-witness p (a ∷ l) h = go (p a) refl (any-witness p l) h
+    where
+      go : (b : Bool) → p a ≡ b → (any p l ≡ true → (c : A) × List·Memᴰ c l × (p c ≡ true)) → (b || any p l) ≡ true
+          → (c : A) × List·Memᴰ c (a ∷ l) × (p c ≡ true)
+      go true e f k = (a, List·Memᴰ·head refl, e)
+      go false e f k = let (c, m, t) = f k in (c, List·Memᴰ·tail m, t)
+
+  pub any-member : (p : A → Bool) {a : A} {l : List A} → List·Memᴰ a l → p a ≡ true → any p l ≡ true
+  unfolding any
+  any-member p {a} (List·Memᴰ·head {x = b} {xs = l} e) h = rw (ap p (sym e) ∙ h)
+  any-member p {a} (List·Memᴰ·tail {x = b} {xs = l} m) h = go (p b) (any-member p m h)
+    where
+      go : (c : Bool) → any p l ≡ true → (c || any p l) ≡ true
+      go true k = refl
+      go false k = k
+
+  pub any-append : (p : A → Bool) (l m : List A) → any p (l ++ m) ≡ (any p l || any p m)
+  unfolding any
+  any-append p [] m = refl
+  any-append p (a ∷ l) m = rw (any-append p l m) (sym (or-assoc (p a) (any p l) (any p m)))
+
+  pub all-append : (p : A → Bool) (l m : List A) → all p (l ++ m) ≡ (all p l && all p m)
+  unfolding all
+  all-append p [] m = refl
+  all-append p (a ∷ l) m = rw (all-append p l m) (go (p a) (all p l) (all p m))
+    where
+      go : (a b c : Bool) → (a && (b && c)) ≡ (a && b && c)
+      go true b c = refl
+      go false b c = refl
+
+  pub all-member : (p : A → Bool) {a : A} {l : List A} → List·Memᴰ a l → all p l ≡ true → p a ≡ true
+  unfolding all
+  all-member p (List·Memᴰ·head {x = x} {xs = l} e) h = ap p e ∙ and-parts (p x) (all p l) h .0
+  all-member p (List·Memᴰ·tail {x = x} {xs = l} m) h = all-member p m (and-parts (p x) (all p l) h .1)
+
+  pub in-keep : (p : A → Bool) {a : A} {l : List A} → List·Memᴰ a l → p a ≡ true → List·Memᴰ a (keep p l)
+  unfolding keep
+  in-keep p {a} (List·Memᴰ·head {x = x} {xs = xs} e) h = rw (ap p (sym e) ∙ h) (List·Memᴰ·head e)
+  in-keep p {a} (List·Memᴰ·tail {x = x} {xs = xs} m) h = go (p x) (in-keep p m h)
+    where
+      go : (b : Bool) → List·Memᴰ a (keep p xs) → List·Memᴰ a (cond b (x ∷ keep p xs) (keep p xs))
+      go true k = List·Memᴰ·tail k
+      go false k = k
+
+  pub of-keep : (p : A → Bool) {a : A} (l : List A) → List·Memᴰ a (keep p l) → List·Memᴰ a l × (p a ≡ true)
+  unfolding keep
+  of-keep p {a} [] m = absurd (List·Memᴰ·not-nil m)
+  of-keep p {a} (b ∷ l) m = go (p b) refl m (of-keep p l)
+    where
+      go : (c : Bool) → p b ≡ c → List·Memᴰ a (cond c (b ∷ keep p l) (keep p l)) → (List·Memᴰ a (keep p l) → List·Memᴰ a l × (p a ≡ true))
+          → List·Memᴰ a (b ∷ l) × (p a ≡ true)
+      go true e (List·Memᴰ·head k) f = (List·Memᴰ·head k, ap p k ∙ e)
+      go true e (List·Memᴰ·tail k) f = let r = f k in (List·Memᴰ·tail (r .0), r .1)
+      go false e k f = let r = f k in (List·Memᴰ·tail (r .0), r .1)
+
+  -- fewer elements pass a stronger test, and fewer still where it refuses one
+  pub keep-fewer : (p q : A → Bool) → ((a : A) → p a ≡ true → q a ≡ true) → (l : List A) → length (keep p l) ≤ length (keep q l)
+  unfolding keep
+  keep-fewer p q f [] = omega arith
+  keep-fewer p q f (a ∷ l) = go (p a) (q a) (f a) (keep-fewer p q f l)
+    where
+      go : (b c : Bool) → (b ≡ true → c ≡ true) → length (keep p l) ≤ length (keep q l)
+          → length {A = A} (cond b (a ∷ keep p l) (keep p l)) ≤ length {A = A} (cond c (a ∷ keep q l) (keep q l))
+      go true true g h = omega arith
+      go true false g h = absurd (false≢true (g refl))
+      go false true g h = omega arith
+      go false false g h = h
+
+  pub keep-less : (p q : A → Bool) → ((a : A) → p a ≡ true → q a ≡ true) → {a : A} {l : List A} → List·Memᴰ a l → p a ≡ false → q a ≡ true
+      → length (keep p l) < length (keep q l)
+  unfolding keep
+  keep-less p q f {a} (List·Memᴰ·head {x = x} {xs = l} e) h k =
+      rw (ap p (sym e) ∙ h, ap q (sym e) ∙ k) (omega (arith, keep-fewer p q f l))
+  keep-less p q f {a} (List·Memᴰ·tail {x = x} {xs = l} m) h k = go (p x) (q x) (f x) (keep-less p q f m h k)
+    where
+      go : (b c : Bool) → (b ≡ true → c ≡ true) → length (keep p l) < length (keep q l)
+          → length {A = A} (cond b (x ∷ keep p l) (keep p l)) < length {A = A} (cond c (x ∷ keep q l) (keep q l))
+      go true true g h = omega arith
+      go true false g h = absurd (false≢true (g refl))
+      go false true g h = omega arith
+      go false false g h = h
+
+  pub keep-length : (p : A → Bool) (l : List A) → length (keep p l) ≤ length l
+  unfolding keep
+  keep-length p [] = omega arith
+  keep-length p (a ∷ l) = go (p a) (keep-length p l)
+    where
+      go : (b : Bool) → length (keep p l) ≤ length l → length {A = A} (cond b (a ∷ keep p l) (keep p l)) ≤ suc (length l)
+      go true h = omega arith
+      go false h = omega arith
+
+module _ {A B : Type 0} where
+  pub of-for : (f : A → List B) {z : B} (l : List A) → List·Memᴰ z (for l f) → (a : A) × List·Memᴰ a l × List·Memᴰ z (f a)
+  unfolding for
+  of-for f [] m = absurd (List·Memᴰ·not-nil m)
+  of-for f {z} (x ∷ xs) m = go (List·Memᴰ·append-cases (f x) m) (of-for f xs)
+    where
+      go : List·Memᴰ z (f x) ⊎ List·Memᴰ z (for xs f) → (List·Memᴰ z (for xs f) → (a : A) × List·Memᴰ a xs × List·Memᴰ z (f a))
+          → (a : A) × List·Memᴰ a (x ∷ xs) × List·Memᴰ z (f a)
+      go (inl k) r = (x, List·Memᴰ·head refl, k)
+      go (inr k) r = let (a, h, w) = r k in (a, List·Memᴰ·tail h, w)
+
+  pub in-for : (f : A → List B) {a : A} {z : B} {l : List A} → List·Memᴰ a l → List·Memᴰ z (f a) → List·Memᴰ z (for l f)
+  unfolding for
+  in-for f {a} {z} (List·Memᴰ·head {x = x} {xs = xs} e) h = Memᴰ·append-left (for xs f) (subst (λ (c : A). List·Memᴰ z (f c)) e h)
+  in-for f (List·Memᴰ·tail {x = x} m) h = Memᴰ·append-right (f x) (in-for f m h)
+
+  pub any-for : (p : B → Bool) (l : List A) (f : A → List B) → any p (for l f) ≡ any (λ a. any p (f a)) l
+  unfolding any for
+  any-for p [] f = refl
+  any-for p (a ∷ l) f = any-append p (f a) (for l f) ∙ ap (λ (t : Bool). any p (f a) || t) (any-for p l f)
+
+-- the numbers of `count` and `below`
+pub in-count : (from n a : ℕ) → from ≤ a → a < from + n → List·Memᴰ a (count from n)
+unfolding count
+in-count from zero a h k = absurd (omega arith)
+in-count from (suc n) a h k = go (ℕ-discrete a from) (in-count (suc from) n a)
+  where
+    go : Dec (a ≡ from) → (suc from ≤ a → a < suc from + n → List·Memᴰ a (count (suc from) n)) → List·Memᴰ a (from ∷ count (suc from) n)
+    go (yes e) r = List·Memᴰ·head e
+    go (no d) r = List·Memᴰ·tail (r (omega arith) (omega arith))
+
+pub of-count : (from n : ℕ) {a : ℕ} → List·Memᴰ a (count from n) → (from ≤ a) × (a < from + n)
+unfolding count
+of-count from zero m = absurd (List·Memᴰ·not-nil m)
+of-count from (suc n) {a} (List·Memᴰ·head e) = (omega arith, omega arith)
+of-count from (suc n) {a} (List·Memᴰ·tail m) = let (h, k) = of-count (suc from) n m in (omega arith, omega arith)
+
+pub length-count : (from n : ℕ) → length (count from n) ≡ n
+unfolding count
+length-count from zero = refl
+length-count from (suc n) = ap suc (length-count (suc from) n)
+
+pub in-below : (n a : ℕ) → a < n → List·Memᴰ a (below n)
+unfolding below
+in-below n a h = in-count 0 n a (omega arith) (omega arith)
+
+pub of-below : (n : ℕ) {a : ℕ} → List·Memᴰ a (below n) → a < n
+unfolding below
+of-below n m = let (h, k) = of-count 0 n m in omega arith
+
+-- `member` is membership
+pub member-in : (l : List ℕ) (a : ℕ) → member l a ≡ true → List·Memᴰ a l
+unfolding member
+member-in [] a h = absurd (false≢true h)
+member-in (x ∷ xs) a h = go (eqb x a) refl (member-in xs a) h
+  where
+    go : (b : Bool) → eqb x a ≡ b → (member xs a ≡ true → List·Memᴰ a xs) → (b || member xs a) ≡ true → List·Memᴰ a (x ∷ xs)
+    go true e f k = List·Memᴰ·head (sym (eqb-true x a e))
+    go false e f k = List·Memᴰ·tail (f k)
+
+pub in-member : {l : List ℕ} {a : ℕ} → List·Memᴰ a l → member l a ≡ true
+unfolding member
+in-member {l} {a} (List·Memᴰ·head {x = x} {xs = xs} e) = rw (eq-eqb x a (sym e))
+in-member {l} {a} (List·Memᴰ·tail {x = x} {xs = xs} m) = go (eqb x a) (in-member m)
+  where
+    go : (b : Bool) → member xs a ≡ true → (b || member xs a) ≡ true
+    go true k = refl
+    go false k = k
+
+pub member-append : (xs : List ℕ) (x a : ℕ) → member (xs ++ (x ∷ [])) a ≡ (member xs a || eqb x a)
+unfolding member
+member-append [] x a = or-false (eqb x a)
+member-append (y ∷ ys) x a = simp (member-append ys x a, or-assoc)
+
+-- a list of different numbers, one longer
+pub distinct-append : (n : ℕ) (passed xs : List ℕ) (x : ℕ)
+    → distinct n passed (xs ++ (x ∷ [])) ≡ (distinct n passed xs && (ltb x n && not (member (passed ++ xs) x)))
+unfolding distinct
+distinct-append n passed [] x = rw append-nil (and-true (ltb x n && not (member passed x)))
+distinct-append n passed (y ∷ xs) x =
+    rw (distinct-append n (passed ++ (y ∷ [])) xs x, append-snoc passed y xs)
+    (sym (and-assoc (ltb y n && not (member passed y)) (distinct n (passed ++ (y ∷ [])) xs) (ltb x n && not (member (passed ++ y ∷ xs) x))))
+
+-- different numbers below n, none of `passed`, are at most as many as there are such numbers
+free : ℕ → List ℕ → ℕ
+free n passed = length (keep (λ a. not (member passed a)) (below n))
+
+distinct-free : (n : ℕ) (passed xs : List ℕ) → distinct n passed xs ≡ true → length xs ≤ free n passed
+unfolding distinct free
+distinct-free n passed [] h = omega arith
+distinct-free n passed (x ∷ xs) h =
+    let (h1, h2) = and-parts (ltb x n && not (member passed x)) (distinct n (passed ++ (x ∷ [])) xs) h in
+    let (h3, h4) = and-parts (ltb x n) (not (member passed x)) h1 in
+    omega (
+      arith,
+      distinct-free n (passed ++ (x ∷ [])) xs h2,
+      keep-less (λ a. not (member (passed ++ (x ∷ [])) a)) (λ a. not (member passed a)) weaker (in-below n x (ltb-true x n h3)) taken h4,
+    )
+  where
+    weaker : (a : ℕ) → not (member (passed ++ (x ∷ [])) a) ≡ true → not (member passed a) ≡ true
+    weaker a k = go (member passed a) (eqb x a) (rw (member-append passed x a) at k)
+      where
+        go : (p q : Bool) → not (p || q) ≡ true → not p ≡ true
+        go true q t = t
+        go false q t = refl
+
+    taken : not (member (passed ++ (x ∷ [])) x) ≡ false
+    taken = rw (member-append passed x x, eq-eqb x x refl) (go (member passed x))
+      where
+        go : (p : Bool) → not (p || true) ≡ false
+        go true = refl
+        go false = refl
+
+pub distinct-length : (n : ℕ) (xs : List ℕ) → distinct n [] xs ≡ true → length xs ≤ n
+unfolding free below
+distinct-length n xs h =
+    omega (arith, distinct-free n [] xs h, keep-length (λ a. not (member [] a)) (count 0 n), length-count 0 n)

@@ -1,0 +1,82 @@
+-- Loops that test the numbers below a bound, one after the other, and leave at the first that decides.
+use Prim.Native.Nat.{ℕ, zero, suc, _+_, _<_, _≤_}
+use native.Mathlib.Nat.{le-antisymm, not-suc-le-zero, le-of-suc-le-suc, eq-or-lt-of-le}
+use native.Mathlib.Numerals.{add-one}
+use native.Mathlib.Omega.{arith}
+use mathlib.Core.Path.{_≡_, refl, sym, ap, _∙_}
+use mathlib.Core.Bool.{Bool, true, false, not, _&&_, _||_, and-false, and-assoc, and-true}
+use mathlib.Core.List.{List, [], _∷_}
+use mathlib.Core.Logic.{⊎-elim}
+use lib.ListN.{length, getD}
+use borrow.Author.Tests.{not-true, not-false}
+use Rattle.base.specs.Lists.{all}
+use Rattle.base.specs.Below.{allBelow, anyBelow}
+use Rattle.base.proofs.Bools.{and-parts}
+
+module _ (p : ℕ → Bool) where
+  -- one test that fails decides
+  pub all-fails : (n k : ℕ) → k < n → p k ≡ false → allBelow n p ≡ false
+  unfolding allBelow
+  all-fails zero k h e = absurd (not-suc-le-zero h)
+  all-fails (suc n) k h e =
+      ⊎-elim (λ q. rw (← q) (rw e (and-false (allBelow k p)))) (λ l. rw (all-fails n k l e) refl)
+      (eq-or-lt-of-le (le-of-suc-le-suc h))
+
+  pub all-at : (n : ℕ) → allBelow n p ≡ true → (k : ℕ) → k < n → p k ≡ true
+  unfolding allBelow
+  all-at zero t k h = absurd (not-suc-le-zero h)
+  all-at (suc n) t k h =
+      let parts = and-parts (allBelow n p) (p n) t in
+      ⊎-elim (λ q. ap p q ∙ parts .1) (λ l. all-at n (parts .0) k l) (eq-or-lt-of-le (le-of-suc-le-suc h))
+
+  -- the same test by another name
+  pub all-same : (q : ℕ → Bool) (n : ℕ) → ((k : ℕ) → k < n → p k ≡ q k) → allBelow n p ≡ allBelow n q
+  unfolding allBelow
+  all-same q zero e = refl
+  all-same q (suc n) e = cc (all-same q n (λ k l. e k (omega arith)), e n (omega arith))
+
+  -- the first test first
+  pub all-first : (n : ℕ) → allBelow (suc n) p ≡ (p 0 && allBelow n (λ k. p (suc k)))
+  unfolding allBelow
+  all-first zero = sym (and-true (p 0))
+  all-first (suc n) = ap (λ (t : Bool). t && p (suc n)) (all-first n) ∙ and-assoc (p 0) (allBelow n (λ k. p (suc k))) (p (suc n))
+
+  -- some number passes exactly when not all fail
+  pub any-not-all : (n : ℕ) → anyBelow n p ≡ not (allBelow n (λ k. not (p k)))
+  unfolding allBelow anyBelow
+  any-not-all zero = refl
+  any-not-all (suc n) = rw (any-not-all n) (go (allBelow n (λ k. not (p k))) (p n))
+    where
+      go : (a b : Bool) → (not a || b) ≡ not (a && not b)
+      go true true = refl
+      go true false = refl
+      go false b = refl
+
+-- a test of every element of a list, by index
+pub all-elements : {A : Type 0} (p : A → Bool) (d : A) (l : List A) → allBelow (length l) (λ k. p (getD l k d)) ≡ all p l
+unfolding allBelow all
+all-elements p d [] = refl
+all-elements p d (x ∷ l) = all-first (λ k. p (getD (x ∷ l) k d)) (length l) ∙ ap (λ (t : Bool). p x && t) (all-elements p d l)
+
+-- The invariant: the tests below i have passed.
+pub record Passed (n : ℕ) (p : ℕ → Bool) (i : ℕ) : Type 0 where
+  pub within : i ≤ n
+  pub passed : allBelow i p ≡ true
+
+pub starts : {n : ℕ} {p : ℕ → Bool} → Passed n p 0
+unfolding allBelow
+starts {n} {p} = record { within = omega arith; passed = refl }
+
+module _ {n i : ℕ} {p : ℕ → Bool} (inv : Passed n p i) where
+  -- a turn whose test r holds
+  pub turns : {r : Bool} → i < n → r ≡ p i → not r ≡ false → Passed n p (i + 1)
+  unfolding allBelow
+  turns {r} l e t = record { within = omega arith; passed = rw add-one (rw (inv .passed) (sym e ∙ not-false r t)) }
+
+  -- a turn whose test r fails
+  pub stops : {r : Bool} → i < n → r ≡ p i → not r ≡ true → false ≡ allBelow n p
+  stops {r} l e t = sym (all-fails p n i l (sym e ∙ not-true r t))
+
+  -- the end of the loop
+  pub ends : n ≤ i → true ≡ allBelow n p
+  ends b = sym (ap (λ (k : ℕ). allBelow k p) (le-antisymm b (inv .within)) ∙ inv .passed)

@@ -1,0 +1,5 @@
+-- The definitions of this crate.
+pub mod Lists
+pub mod Lex
+pub mod Below
+pub mod Fold

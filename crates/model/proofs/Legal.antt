@@ -1,0 +1,55 @@
+-- A prefix breaks no rule exactly when it is consistent; so an order of all operations is judged legal exactly when it is consistent.
+use Prim.Native.Nat.{ℕ, zero, suc}
+use mathlib.Core.Path.{_≡_, refl, sym, ap, _∙_}
+use mathlib.Core.Bool.{Bool, true, false, not, cond, _||_}
+use mathlib.Core.List.{List, [], _∷_, List·Memᴰ}
+use mathlib.Core.Logic.{_↔_}
+use mathlib.Core.Option.{Option, none, some}
+use lib.ListN.{length}
+use lib.Dec.{eqb}
+use borrow.Author.Tests.{eq-eqb}
+use Rattle.base.specs.Lists.{any, distinct}
+use Rattle.model.specs.Execution.{Execution, operations}
+use Rattle.model.specs.Questions.{found, next, ask, readRecord}
+use Rattle.model.specs.Rules.{Claim, broken, lowestFrom, lowestBroken, rules, keeps, consistent}
+use Rattle.model.specs.Search.{prefixes}
+use Rattle.model.specs.Calls.{Answer, says, answerOf, Judgement, legal, breaks, judgementOf, judging, judgeCall}
+use Rattle.model.proofs.Consistent.{keeps-shorter, keeps-empty}
+use Rattle.model.proofs.Prefixes.{Ascending, prefixes-ascend, prefixes-are}
+
+-- the judgement of a prefix by whether it breaks no rule, where no rule has number 0
+lowest-keeps : (k : ℕ) (rs : List (List Claim)) (xs : List ℕ) → (judgementOf (lowestFrom k rs xs) ≡ legal) ↔ (keeps rs xs ≡ true)
+unfolding lowestFrom keeps any
+lowest-keeps k [] xs = (λ h. refl, λ h. refl)
+lowest-keeps k (r ∷ rs) xs = go (any (broken xs) r) (lowest-keeps (suc k) rs xs)
+  where
+    go : (b : Bool) → (judgementOf (lowestFrom (suc k) rs xs) ≡ legal) ↔ (not (any (any (broken xs)) rs) ≡ true)
+        → (judgementOf (cond b (some k) (lowestFrom (suc k) rs xs)) ≡ legal) ↔ (not (b || any (any (broken xs)) rs) ≡ true)
+    go true ih = (λ h. cc, λ h. cc)
+    go false ih = ih
+
+module _ (bytes : List ℕ) (e : Execution) (rest : List ℕ) (read : readRecord bytes ≡ found e rest) where
+  -- the judge of an offered order that passes questions 16 and 17
+  pub judge-order : (order : List ℕ) → length order ≡ operations e → distinct (operations e) [] order ≡ true
+      → judgeCall bytes order ≡ says (judgementOf (lowestBroken e order))
+  unfolding judgeCall judging answerOf next ask
+  judge-order order l d = rw (read, eq-eqb (length order) (operations e) l, d)
+
+  -- full and consistent is legal
+  pub legal-consistent : (order : List ℕ) → length order ≡ operations e → distinct (operations e) [] order ≡ true
+      → (judgeCall bytes order ≡ says legal) ↔ (consistent e order ≡ true)
+  unfolding lowestBroken consistent
+  legal-consistent order l d =
+      let j = judge-order order l d in
+      let both : (judgementOf (lowestBroken e order) ≡ legal) ↔ (consistent e order ≡ true) = lowest-keeps _ (rules e) order in
+      (λ h. both .0 (cc), λ h. j ∙ ap says (both .1 h))
+
+-- the enumeration of an execution's consistent prefixes
+module _ (e : Execution) where
+  pub consistent-ascend : Ascending (prefixes (operations e) (keeps (rules e)))
+  consistent-ascend = prefixes-ascend (operations e) (keeps (rules e)) (λ xs x. keeps-shorter xs x (rules e)) (keeps-empty (rules e))
+
+  pub consistent-are : (z : List ℕ)
+      → List·Memᴰ z (prefixes (operations e) (keeps (rules e))) ↔ ((distinct (operations e) [] z ≡ true) × (consistent e z ≡ true))
+  unfolding consistent
+  consistent-are z = prefixes-are (operations e) (keeps (rules e)) (λ xs x. keeps-shorter xs x (rules e)) (keeps-empty (rules e)) z

@@ -1,0 +1,7 @@
+-- The laws of this crate, open to the crates above it.
+pub mod Tables
+pub mod Before
+pub mod Consistent
+pub mod Prefixes
+pub mod Legal
+pub mod ProgramOrder

@@ -1,0 +1,158 @@
+-- The execution that a record holds: processors, lines of memory, instructions and dependence pairs; instructions and their operations by number.
+use Prim.Native.Nat.{ℕ, suc, _+_, _/_, _%_}
+use mathlib.Core.Bool.{Bool, true, false, cond, _||_}
+use mathlib.Core.List.{List, [], _∷_, map}
+use lib.ListN.{length, getD}
+use lib.Dec.{eqb}
+use Rattle.base.specs.Lists.{keep, for, below}
+
+-- The kind of an instruction. Its number in the record is its place in this list.
+pub data Kind : Type 0 where
+  ld ld-acq st st-rel mf : Kind
+
+abbrev pub kindOf : ℕ → Kind
+kindOf k = getD (ld ∷ ld-acq ∷ st ∷ st-rel ∷ []) k mf
+
+abbrev pub isLoad : Kind → Bool
+isLoad ld = true
+isLoad ld-acq = true
+isLoad st = false
+isLoad st-rel = false
+isLoad mf = false
+
+abbrev pub isStore : Kind → Bool
+isStore ld = false
+isStore ld-acq = false
+isStore st = true
+isStore st-rel = true
+isStore mf = false
+
+abbrev pub isAcquire : Kind → Bool
+isAcquire ld = false
+isAcquire ld-acq = true
+isAcquire st = false
+isAcquire st-rel = false
+isAcquire mf = false
+
+abbrev pub isRelease : Kind → Bool
+isRelease ld = false
+isRelease ld-acq = false
+isRelease st = false
+isRelease st-rel = true
+isRelease mf = false
+
+abbrev pub isFence : Kind → Bool
+isFence ld = false
+isFence ld-acq = false
+isFence st = false
+isFence st-rel = false
+isFence mf = true
+
+-- The attribute of a line. Its number in the record is its place in this list.
+pub data Attribute : Type 0 where
+  WB UC WC : Attribute
+
+abbrev pub attributeOf : ℕ → Attribute
+attributeOf a = getD (WB ∷ UC ∷ []) a WC
+
+abbrev pub isWB : Attribute → Bool
+isWB WB = true
+isWB UC = false
+isWB WC = false
+
+abbrev pub isUC : Attribute → Bool
+isUC WB = false
+isUC UC = true
+isUC WC = false
+
+-- Line k holds addresses 8k to 8k + 7.
+pub record Line : Type 0 where
+  pub attribute : Attribute
+  pub initial : List ℕ
+
+-- An instruction. `number` is its own number, `first` that of its first operation. `bytes` is what a load saw or a store wrote, one byte for each address.
+pub record Instruction : Type 0 where
+  pub number : ℕ
+  pub first : ℕ
+  pub processor : ℕ
+  pub kind : Kind
+  pub address : ℕ
+  pub size : ℕ
+  pub bytes : List ℕ
+
+pub record Execution : Type 0 where
+  pub processors : ℕ
+  pub lines : List Line
+  pub instructions : List Instruction
+  pub pairs : List (ℕ × ℕ)  -- dependences: the earlier instruction's number, the later one's
+
+-- Operations
+
+-- What an operation is to its instruction. RV q is remote visibility to processor q.
+pub data Role : Type 0 where
+  R LV F : Role
+  RV : ℕ → Role
+
+-- the operations that an instruction gives with P processors, in the order of their numbers: a load gives R; a store gives LV, then RV_0 to RV_(P-1); an mf gives F
+unfoldable pub roles : ℕ → Kind → List Role
+roles p ld = R ∷ []
+roles p ld-acq = R ∷ []
+roles p st = LV ∷ map RV (below p)
+roles p st-rel = LV ∷ map RV (below p)
+roles p mf = F ∷ []
+
+-- the number of operations of some instructions with P processors
+unfoldable pub operationCount : ℕ → List Instruction → ℕ
+operationCount p [] = 0
+operationCount p (i ∷ is) = length (roles p (i .kind)) + operationCount p is
+
+-- N, the number of operations
+unfoldable pub operations : Execution → ℕ
+operations e = operationCount (e .processors) (e .instructions)
+
+-- the number of an instruction's operation by its role
+abbrev pub numberOf : Instruction → Role → ℕ
+numberOf i R = i .first
+numberOf i LV = i .first
+numberOf i F = i .first
+numberOf i (RV q) = suc (i .first) + q
+
+pub record Operation : Type 0 where
+  pub number : ℕ
+  pub instruction : Instruction
+  pub role : Role
+
+-- the operations of an instruction with P processors
+unfoldable pub operationsOf : ℕ → Instruction → List Operation
+operationsOf p i = map (λ r. record { number = numberOf i r; instruction = i; role = r }) (roles p (i .kind))
+
+module _ (e : Execution) where
+  -- all operations, by number
+  unfoldable pub allOperations : List Operation
+  allOperations = for (e .instructions) (operationsOf (e .processors))
+
+  unfoldable pub loads : List Instruction
+  loads = keep (λ i. isLoad (i .kind)) (e .instructions)
+
+  unfoldable pub stores : List Instruction
+  stores = keep (λ i. isStore (i .kind)) (e .instructions)
+
+  unfoldable pub everyProcessor : List ℕ
+  everyProcessor = below (e .processors)
+
+-- Memory
+
+abbrev noLine : Line
+noLine = record { attribute = WC; initial = [] }
+
+-- the line of an address
+unfoldable pub lineAt : Execution → ℕ → Line
+lineAt e a = getD (e .lines) (a / 8) noLine
+
+-- the attribute of the memory that an instruction accesses
+unfoldable pub attributeAt : Execution → Instruction → Attribute
+attributeAt e i = lineAt e (i .address) .attribute
+
+-- the byte that an address holds at the start
+unfoldable pub initialByte : Execution → ℕ → ℕ
+initialByte e a = getD (lineAt e a .initial) (a % 8) 0

@@ -1,0 +1,15 @@
+-- Document 01 as definitions, in its order; then tables of examples.
+pub mod Execution
+pub mod Questions
+pub mod Rules
+pub mod ProgramOrder
+pub mod Search
+pub mod Chains
+pub mod Calls
+pub mod PointThree
+pub mod Verdict
+pub mod Notation
+pub mod Rows
+pub mod PaperTable
+pub mod RuleTable
+pub mod QuestionTable

@@ -1,0 +1,51 @@
+-- Records written as the papers write executions: `recordOf lines programs pairs` gives the bytes.
+use Prim.Native.Nat.{ℕ}
+use mathlib.Core.List.{List, [], _∷_, _++_}
+use lib.ListN.{length, replicate}
+use Rattle.base.specs.Lists.{for}
+
+-- x is address 0, y address 8
+abbrev pub x : ℕ
+x = 0
+
+abbrev pub y : ℕ
+y = 8
+
+-- a line of zeros
+unfoldable pub zeros : ℕ → List ℕ
+zeros attribute = attribute ∷ replicate 8 0
+
+abbrev pub wb : List ℕ
+wb = zeros 0
+
+abbrev pub uc : List ℕ
+uc = zeros 1
+
+abbrev pub wc : List ℕ
+wc = zeros 2
+
+-- an entry with one byte of data
+abbrev pub entry : ℕ → ℕ → ℕ → ℕ → List ℕ
+entry kind address size value = kind ∷ address ∷ size ∷ value ∷ replicate 7 0
+
+-- the value seen or written, of size 1
+abbrev pub ld : ℕ → ℕ → List ℕ
+ld address value = entry 0 address 1 value
+
+abbrev pub ld-acq : ℕ → ℕ → List ℕ
+ld-acq address value = entry 1 address 1 value
+
+abbrev pub st : ℕ → ℕ → List ℕ
+st address value = entry 2 address 1 value
+
+abbrev pub st-rel : ℕ → ℕ → List ℕ
+st-rel address value = entry 3 address 1 value
+
+abbrev pub mf : List ℕ
+mf = entry 4 0 0 0
+
+unfoldable pub recordOf : List (List ℕ) → List (List (List ℕ)) → List (ℕ × ℕ) → List ℕ
+recordOf lines programs pairs =
+    length programs ∷ length lines ∷ for lines (λ l. l)
+    ++ for programs (λ p. length p ∷ for p (λ i. i))
+    ++ (length pairs ∷ for pairs (λ p. p .0 ∷ p .1 ∷ []))

@@ -1,0 +1,128 @@
+-- For each question, records and calls that it refuses and others, as near as can be, that it passes.
+use Prim.Native.Nat.{ℕ, _+_}
+use mathlib.Core.List.{List, [], _∷_, _++_, map}
+use lib.ListN.{take, drop, replicate}
+use Rattle.base.specs.Lists.{for, below, count}
+use Rattle.model.specs.Notation.{x, y, wb, uc, wc, zeros, ld, ld-acq, st, st-rel, mf, entry, recordOf}
+use Rattle.model.specs.Rows.{Row, judged-no, searched-no, tabled-no, cut, lent}
+use Rattle.model.specs.PaperTable.{k1, k2, k11-pair, k12}
+
+-- the record is refused with this number
+abbrev refused : List ℕ → ℕ → Row
+refused bytes q = judged-no bytes [] q
+
+-- the record passes questions 1 to 15: it is an empty order that is refused
+abbrev passes : List ℕ → Row
+passes bytes = judged-no bytes [] 16
+
+-- one processor, one line, one instruction
+abbrev only : List ℕ → List ℕ
+only i = recordOf (wb ∷ []) ((i ∷ []) ∷ []) []
+
+-- one line and these programs
+abbrev programs : List (List (List ℕ)) → List ℕ
+programs ps = recordOf (wb ∷ []) ps []
+
+-- on two processors: ld x, st x, ld x, mf, st x; ld x
+abbrev pairs : List (ℕ × ℕ) → List ℕ
+pairs ps = recordOf (wb ∷ []) ((ld x 0 ∷ st x 1 ∷ ld x 0 ∷ mf ∷ st x 2 ∷ []) ∷ (ld x 0 ∷ []) ∷ []) ps
+
+-- ten loads and the first n pairs of them
+abbrev manyPairs : ℕ → List ℕ
+manyPairs n = recordOf (wb ∷ []) (replicate 10 (ld x 0) ∷ []) (take n (for (below 9) (λ a. map (λ d. (a, d)) (drop (1 + a) (below 10)))))
+
+-- eight processors; stores and loads on the first
+abbrev eight : ℕ → ℕ → List ℕ
+eight stores loads = programs ((replicate stores (st x 1) ++ replicate loads (ld x 0)) ∷ replicate 7 [])
+
+unfoldable pub questionTable : List Row
+questionTable =
+    -- 1: before each item, and before the item's own questions
+    cut k11-pair 1
+    ∷ refused (1 ∷ 1 ∷ 9 ∷ 0 ∷ []) 1
+    ∷ refused (1 ∷ 1 ∷ wb ++ (1 ∷ 9 ∷ 0 ∷ [])) 1
+    -- 2: 1 to 8 processors
+    ∷ refused (0 ∷ []) 2
+    ∷ refused (9 ∷ []) 2
+    ∷ passes (programs (replicate 7 [] ++ ((ld x 0 ∷ []) ∷ [])))
+    -- 3: 1 to 8 lines
+    ∷ refused (1 ∷ 0 ∷ []) 3
+    ∷ refused (1 ∷ 9 ∷ []) 3
+    ∷ passes (recordOf (replicate 8 wb) ((ld 63 0 ∷ []) ∷ []) [])
+    -- 4: attributes 0 to 2, of each line
+    ∷ refused (recordOf (wb ∷ zeros 3 ∷ []) ((ld x 0 ∷ []) ∷ []) []) 4
+    ∷ passes (recordOf (wb ∷ uc ∷ wc ∷ []) ((ld x 0 ∷ []) ∷ []) [])
+    -- 5: 40 instructions over all
+    ∷ refused (programs (replicate 41 (ld x 0) ∷ [])) 5
+    ∷ refused (programs (replicate 40 (ld x 0) ∷ (ld x 0 ∷ []) ∷ [])) 5
+    ∷ passes (programs (replicate 39 (ld x 0) ∷ (ld x 0 ∷ []) ∷ []))
+    -- 6: kinds 0 to 4
+    ∷ refused (only (entry 5 0 1 0)) 6
+    ∷ passes (only mf)
+    -- 7: sizes 1, 2, 4 and 8, of an mf 0
+    ∷ refused (only (entry 0 0 0 0)) 7
+    ∷ refused (only (entry 0 0 3 0)) 7
+    ∷ refused (only (entry 0 0 16 0)) 7
+    ∷ refused (only (entry 4 0 1 0)) 7
+    ∷ passes (programs ((ld x 0 ∷ entry 0 6 2 0 ∷ entry 0 4 4 0 ∷ entry 0 0 8 0 ∷ []) ∷ []))
+    -- 8: a multiple of the size, within the lines, of an mf 0
+    ∷ refused (only (entry 0 4 8 0)) 8
+    ∷ refused (only (entry 0 1 2 0)) 8
+    ∷ refused (only (ld 8 0)) 8
+    ∷ refused (only (entry 4 8 0 0)) 8
+    ∷ refused (only (entry 4 1 0 0)) 8
+    ∷ passes (only (ld 7 0))
+    -- 9: data bytes past the size are zero
+    ∷ refused (only (0 ∷ 0 ∷ 1 ∷ 5 ∷ 1 ∷ 0 ∷ 0 ∷ 0 ∷ 0 ∷ 0 ∷ 0 ∷ [])) 9
+    ∷ refused (only (0 ∷ 0 ∷ 4 ∷ 5 ∷ 1 ∷ 1 ∷ 1 ∷ 0 ∷ 0 ∷ 0 ∷ 1 ∷ [])) 9
+    ∷ refused (only (entry 4 0 0 1)) 9
+    ∷ passes (only (2 ∷ 0 ∷ 8 ∷ 1 ∷ 2 ∷ 3 ∷ 4 ∷ 5 ∷ 6 ∷ 7 ∷ 8 ∷ []))
+    -- 10: an instruction
+    ∷ refused (programs ([] ∷ [] ∷ [])) 10
+    -- 11: 128 operations
+    ∷ passes (eight 14 0)
+    ∷ refused (eight 15 0) 11
+    ∷ passes (eight 14 2)
+    ∷ refused (eight 14 3) 11
+    -- 12: 40 pairs
+    ∷ passes (manyPairs 40)
+    ∷ refused (manyPairs 41) 12
+    -- 13: first below second, in one program, no mf, not both stores
+    ∷ passes (pairs ((0, 1) ∷ (0, 2) ∷ (0, 4) ∷ (1, 2) ∷ (2, 4) ∷ []))
+    ∷ refused (pairs ((1, 0) ∷ [])) 13
+    ∷ refused (pairs ((1, 1) ∷ [])) 13
+    ∷ refused (pairs ((0, 6) ∷ [])) 13
+    ∷ refused (pairs ((2, 5) ∷ [])) 13
+    ∷ refused (pairs ((0, 3) ∷ [])) 13
+    ∷ refused (pairs ((3, 4) ∷ [])) 13
+    ∷ refused (pairs ((1, 4) ∷ [])) 13
+    -- 14: above the one before it
+    ∷ refused (pairs ((0, 1) ∷ (0, 1) ∷ [])) 14
+    ∷ refused (pairs ((0, 2) ∷ (0, 1) ∷ [])) 14
+    ∷ refused (pairs ((0, 1) ∷ (1, 2) ∷ (0, 4) ∷ [])) 14
+    -- 15: the end
+    ∷ refused (k1 ++ (0 ∷ [])) 15
+    -- 16: N entries
+    ∷ judged-no k1 (0 ∷ 1 ∷ []) 16
+    ∷ judged-no k1 (0 ∷ 1 ∷ 2 ∷ 3 ∷ []) 16
+    -- 17: below N, and different
+    ∷ judged-no k1 (0 ∷ 1 ∷ 3 ∷ []) 17
+    ∷ judged-no k1 (0 ∷ 1 ∷ 0 ∷ []) 17
+    -- 18: N bytes of buffer
+    ∷ searched-no k2 (9 ∷ 9 ∷ []) 4 18
+    -- 19: a saved length of at most N
+    ∷ searched-no k2 (0 ∷ 0 ∷ 9 ∷ 9 ∷ []) 4 19
+    ∷ searched-no k2 (0 ∷ 0 ∷ 9 ∷ []) 4 19
+    -- 20: the saved entries below N, and different
+    ∷ searched-no k2 (2 ∷ 2 ∷ 9 ∷ []) 2 20
+    ∷ searched-no k2 (2 ∷ 3 ∷ 9 ∷ []) 2 20
+    ∷ searched-no k2 (0 ∷ 1 ∷ 0 ∷ []) 3 20
+    -- 21: the saved position is consistent
+    ∷ searched-no k2 (1 ∷ 9 ∷ 9 ∷ []) 1 21
+    ∷ searched-no k2 (0 ∷ 1 ∷ 2 ∷ []) 3 21
+    -- a call's own questions come after the record's
+    ∷ searched-no (k1 ++ (0 ∷ [])) [] 4 15
+    -- 22: N × N bytes of table
+    ∷ tabled-no k1 (replicate 8 5) 22
+    ∷ tabled-no (9 ∷ []) (replicate 9 5) 2
+    ∷ []

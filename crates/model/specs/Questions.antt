@@ -1,0 +1,191 @@
+-- The record is walked left to right: question 1 before each item, then the item's own questions. The first 'no' gives its number.
+use Prim.Native.Nat.{ℕ, zero, suc, _+_, _*_, _%_}
+use mathlib.Core.Bool.{Bool, true, false, not, cond, _&&_, _||_}
+use mathlib.Core.List.{List, [], _∷_, _++_}
+use lib.ListN.{length, getD, take, drop}
+use lib.Dec.{eqb, leb, ltb}
+use Rattle.base.specs.Lists.{all, member}
+use Rattle.model.specs.Execution.{Kind, kindOf, isStore, isFence, mf, attributeOf, Line, Instruction, Execution, operationCount, operations}
+
+-- What a walk comes to: the number of the first question answered 'no', or a value and the bytes after it.
+pub data Found (A : Type 0) : Type 0 where
+  no-to : ℕ → Found A
+  found : A → List ℕ → Found A
+
+-- a walk over the bytes that are left
+abbrev pub Reader : Type 0 → Type 0
+Reader A = List ℕ → Found A
+
+module _ {A : Type 0} where
+  abbrev pub pure : A → Reader A
+  pure a bytes = found a bytes
+
+module _ {A B : Type 0} where
+  unfoldable pub next : Found A → (A → Reader B) → Found B
+  next (no-to q) f = no-to q
+  next (found a bytes) f = f a bytes
+
+  abbrev pub _>>=_ : Reader A → (A → Reader B) → Reader B
+  _>>=_ m f bytes = next (m bytes) f
+
+module _ {B : Type 0} where
+  abbrev pub _>>_ : Reader (Unit {0}) → Reader B → Reader B
+  _>>_ m f bytes = next (m bytes) (λ _. f)
+
+-- 1: does the item end within the bytes?
+unfoldable pub item : ℕ → Reader (List ℕ)
+item n bytes = cond (leb n (length bytes)) (found (take n bytes) (drop n bytes)) (no-to 1)
+
+-- an item of one byte
+unfoldable pub byte : Reader ℕ
+byte [] = no-to 1
+byte (b ∷ bytes) = found b bytes
+
+unfoldable pub ask : ℕ → Bool → Reader (Unit {0})
+ask q true bytes = found tt bytes
+ask q false bytes = no-to q
+
+-- byte k of an item
+abbrev pub at : List ℕ → ℕ → ℕ
+at x k = getD x k 0
+
+-- the bytes of a line, and of an instruction
+abbrev pub lineLength : ℕ
+lineLength = 9
+
+abbrev pub entryLength : ℕ
+entryLength = 11
+
+-- 2: is P from 1 to 8?
+unfoldable pub question2 : ℕ → Bool
+question2 p = leb 1 p && leb p 8
+
+-- 3: are there 1 to 8 lines?
+unfoldable pub question3 : ℕ → Bool
+question3 n = leb 1 n && leb n 8
+
+-- 4: is the attribute 0 to 2?
+unfoldable pub question4 : ℕ → Bool
+question4 a = leb a 2
+
+-- 5: are there at most 40 instructions with this count added?
+unfoldable pub question5 : List Instruction → ℕ → Bool
+question5 done n = leb (length done + n) 40
+
+-- 6: is the kind 0 to 4?
+unfoldable pub question6 : ℕ → Bool
+question6 k = leb k 4
+
+-- 7: is the size 1, 2, 4 or 8 (mf: 0)?
+unfoldable pub question7 : Kind → ℕ → Bool
+question7 k size = member (cond (isFence k) (0 ∷ []) (1 ∷ 2 ∷ 4 ∷ 8 ∷ [])) size
+
+-- 8: is the address a multiple of the size, within the lines (mf: 0)?
+unfoldable pub question8 : ℕ → Kind → ℕ → ℕ → Bool
+question8 lines k size address =
+    cond (isFence k) (eqb address 0) (eqb (address % size) 0 && leb (address + size) (8 * lines))
+
+-- 9: are data bytes past the size zero?
+unfoldable pub question9 : ℕ → List ℕ → Bool
+question9 size bytes = all (eqb 0) (drop size bytes)
+
+-- 10: after the last program: is there any instruction?
+unfoldable pub question10 : List Instruction → Bool
+question10 is = leb 1 (length is)
+
+-- 11: is N at most 128?
+unfoldable pub question11 : ℕ → Bool
+question11 n = leb n 128
+
+-- 12: are there at most 40 pairs?
+unfoldable pub question12 : ℕ → Bool
+question12 n = leb n 40
+
+abbrev noInstruction : Instruction
+noInstruction = record { number = 0; first = 0; processor = 0; kind = mf; address = 0; size = 0; bytes = [] }
+
+-- 13: is the pair's first number below its second, both in one program, neither an mf, not both stores?
+unfoldable pub question13 : List Instruction → ℕ → ℕ → Bool
+question13 is m n =
+    let i = getD is m noInstruction in
+    let j = getD is n noInstruction in
+    ltb m n
+    && (ltb n (length is) && eqb (i .processor) (j .processor))
+    && (not (isFence (i .kind)) && not (isFence (j .kind)))
+    && not (isStore (i .kind) && isStore (j .kind))
+
+-- 14: is the pair above the one before it (first number, then second)?
+unfoldable pub question14 : List (ℕ × ℕ) → ℕ → ℕ → Bool
+question14 [] m n = true
+question14 (p ∷ []) m n = ltb (p .0) m || (eqb (p .0) m && ltb (p .1) n)
+question14 (p ∷ (q ∷ ps)) m n = question14 (q ∷ ps) m n
+
+-- 15: does the record end here?
+unfoldable pub question15 : Reader (Unit {0})
+question15 [] = found tt []
+question15 (b ∷ bytes) = no-to 15
+
+-- The walk. `done` is what has been read, the first number what is left to read.
+
+unfoldable pub readLines : ℕ → List Line → Reader (List Line)
+readLines zero done = pure done
+readLines (suc left) done = do
+  x ← item lineLength
+  ask 4 (question4 (at x 0))
+  readLines left (done ++ (record { attribute = attributeOf (at x 0); initial = drop 1 x } ∷ []))
+
+-- the instruction that an entry holds; `done` are those before it
+unfoldable pub instructionOf : ℕ → ℕ → List Instruction → List ℕ → Instruction
+instructionOf processors p done x = record {
+  number = length done;
+  first = operationCount processors done;
+  processor = p;
+  kind = kindOf (at x 0);
+  address = at x 1;
+  size = at x 2;
+  bytes = take (at x 2) (drop 3 x);
+}
+
+-- the program of processor p
+unfoldable pub readProgram : ℕ → ℕ → ℕ → ℕ → List Instruction → Reader (List Instruction)
+readProgram processors lines p zero done = pure done
+readProgram processors lines p (suc left) done = do
+  x ← item entryLength
+  ask 6 (question6 (at x 0))
+  ask 7 (question7 (kindOf (at x 0)) (at x 2))
+  ask 8 (question8 lines (kindOf (at x 0)) (at x 2) (at x 1))
+  ask 9 (question9 (at x 2) (drop 3 x))
+  readProgram processors lines p left (done ++ (instructionOf processors p done x ∷ []))
+
+-- the programs from processor p on
+unfoldable pub readPrograms : ℕ → ℕ → ℕ → ℕ → List Instruction → Reader (List Instruction)
+readPrograms processors lines p zero done = pure done
+readPrograms processors lines p (suc left) done = do
+  n ← byte
+  ask 5 (question5 done n)
+  more ← readProgram processors lines p n done
+  readPrograms processors lines (suc p) left more
+
+unfoldable pub readPairs : List Instruction → ℕ → List (ℕ × ℕ) → Reader (List (ℕ × ℕ))
+readPairs is zero done = pure done
+readPairs is (suc left) done = do
+  x ← item 2
+  ask 13 (question13 is (at x 0) (at x 1))
+  ask 14 (question14 done (at x 0) (at x 1))
+  readPairs is left (done ++ ((at x 0, at x 1) ∷ []))
+
+unfoldable pub readRecord : Reader Execution
+readRecord = do
+  p ← byte
+  ask 2 (question2 p)
+  n ← byte
+  ask 3 (question3 n)
+  lines ← readLines n []
+  is ← readPrograms p n 0 p []
+  ask 10 (question10 is)
+  ask 11 (question11 (operationCount p is))
+  k ← byte
+  ask 12 (question12 k)
+  pairs ← readPairs is k []
+  question15
+  pure (record { processors = p; lines = lines; instructions = is; pairs = pairs })

@@ -1,0 +1,1 @@
+// No code: document 01 as definitions, its examples computed from them, and their laws.
