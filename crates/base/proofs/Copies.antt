@@ -18,16 +18,17 @@ pub none-yet : {d : List ℕ} {at : ℕ} {s : List ℕ} → Pasted d at s 0 d
 none-yet {d} {at} {s} = record { within = omega arith; long = refl; made = paste-zero d at s }
 
 module _ {d : List ℕ} {at : ℕ} {s : List ℕ} {j : ℕ} {x : List ℕ} (inv : Pasted d at s j x) where
-  pub one-more : j < length s → at + length s ≤ length d → Pasted d at s (j + 1) (set x (at + j) (getD s j 0))
+  pub one-more : j < length s → at + j < length d → Pasted d at s (j + 1) (set x (at + j) (getD s j 0))
   one-more l room =
       record {
         within = omega arith;
         long = length-set x (at + j) (getD s j 0) ∙ inv .long;
-        made = ap (λ (y : List ℕ). set y (at + j) (getD s j 0)) (inv .made) ∙ (paste-suc d at s j 0 (omega arith) l ∙ ap (paste d at s) (sym (add-one j)));
+        made = ap (λ (y : List ℕ). set y (at + j) (getD s j 0)) (inv .made) ∙ (paste-suc d at s j 0 room l ∙ ap (paste d at s) (sym (add-one j)));
       }
 
-  pub all-in : length s ≤ j → x ≡ paste d at s (length s)
-  all-in b = inv .made ∙ ap (paste d at s) (le-antisymm (inv .within) b)
+  -- the end of a loop over the first n
+  pub copied : (n : ℕ) → n ≤ j → j ≤ n → x ≡ paste d at s n
+  copied n h k = inv .made ∙ ap (paste d at s) (le-antisymm k h)
 
 -- the part of a slice from an index to its end
 pub rest : {A : Type 0} (at : ℕ) (s : List A) → take (length s - at) (drop at s) ≡ drop at s

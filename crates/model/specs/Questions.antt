@@ -146,24 +146,29 @@ instructionOf processors p done x = record {
   bytes = take (at x 2) (drop 3 x);
 }
 
--- the program of processor p
-unfoldable pub readProgram : ℕ → ℕ → ℕ → ℕ → List Instruction → Reader (List Instruction)
-readProgram processors lines p zero done = pure done
-readProgram processors lines p (suc left) done = do
+-- the instructions of processor p
+unfoldable pub readEntries : ℕ → ℕ → ℕ → ℕ → List Instruction → Reader (List Instruction)
+readEntries processors lines p zero done = pure done
+readEntries processors lines p (suc left) done = do
   x ← item entryLength
   ask 6 (question6 (at x 0))
   ask 7 (question7 (kindOf (at x 0)) (at x 2))
   ask 8 (question8 lines (kindOf (at x 0)) (at x 2) (at x 1))
   ask 9 (question9 (at x 2) (drop 3 x))
-  readProgram processors lines p left (done ++ (instructionOf processors p done x ∷ []))
+  readEntries processors lines p left (done ++ (instructionOf processors p done x ∷ []))
+
+-- the program of processor p, from its count on
+unfoldable pub readProgram : ℕ → ℕ → ℕ → List Instruction → Reader (List Instruction)
+readProgram processors lines p done = do
+  n ← byte
+  ask 5 (question5 done n)
+  readEntries processors lines p n done
 
 -- the programs from processor p on
 unfoldable pub readPrograms : ℕ → ℕ → ℕ → ℕ → List Instruction → Reader (List Instruction)
 readPrograms processors lines p zero done = pure done
 readPrograms processors lines p (suc left) done = do
-  n ← byte
-  ask 5 (question5 done n)
-  more ← readProgram processors lines p n done
+  more ← readProgram processors lines p done
   readPrograms processors lines (suc p) left more
 
 unfoldable pub readPairs : List Instruction → ℕ → List (ℕ × ℕ) → Reader (List (ℕ × ℕ))
