@@ -92,6 +92,7 @@ ruleTable =
     ∷ judged (one wb wb (st x 1 ∷ st x 2 ∷ ld x 1 ∷ [])) (0 ∷ 2 ∷ 1 ∷ 4 ∷ 3 ∷ []) (breaks 11)
     ∷ judged (two wb wb (st x 1 ∷ ld x 1 ∷ []) (st x 2 ∷ [])) (0 ∷ 4 ∷ 6 ∷ 5 ∷ 3 ∷ 1 ∷ 2 ∷ []) legal
     ∷ judged (two wb wb (st x 1 ∷ ld x 2 ∷ []) (st x 2 ∷ [])) (0 ∷ 4 ∷ 6 ∷ 5 ∷ 3 ∷ 1 ∷ 2 ∷ []) (breaks 11)
+    ∷ judged (one wb wb ((2 ∷ 0 ∷ 2 ∷ 5 ∷ 6 ∷ 0 ∷ 0 ∷ 0 ∷ 0 ∷ 0 ∷ 0 ∷ []) ∷ ld 1 6 ∷ [])) (0 ∷ 1 ∷ 2 ∷ []) legal
     ∷ judged (halves 5 7) (0 ∷ 1 ∷ 2 ∷ 4 ∷ 3 ∷ []) legal
     ∷ judged (halves 5 6) (0 ∷ 1 ∷ 2 ∷ 4 ∷ 3 ∷ []) (breaks 11)
     ∷ judged (halves 6 7) (0 ∷ 1 ∷ 2 ∷ 3 ∷ 4 ∷ []) (breaks 11)
