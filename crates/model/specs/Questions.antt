@@ -49,12 +49,15 @@ ask q false bytes = no-to q
 abbrev pub at : List ℕ → ℕ → ℕ
 at x k = getD x k 0
 
--- the bytes of a line, and of an instruction
+-- the bytes of a line, of an instruction and of a pair
 abbrev pub lineLength : ℕ
 lineLength = 9
 
 abbrev pub entryLength : ℕ
 entryLength = 11
+
+abbrev pub pairLength : ℕ
+pairLength = 2
 
 -- 2: is P from 1 to 8?
 unfoldable pub question2 : ℕ → Bool
@@ -125,16 +128,33 @@ unfoldable pub question15 : Reader (Unit {0})
 question15 [] = found tt []
 question15 (b ∷ bytes) = no-to 15
 
--- The walk. `done` is what has been read, the first number what is left to read.
+-- The walk
 
-unfoldable pub readLines : ℕ → List Line → Reader (List Line)
-readLines zero done = pure done
-readLines (suc left) done = do
+-- n values one after the other, each read with those before it in `done`
+module _ {A : Type 0} (read : List A → Reader A) where
+  unfoldable pub many : ℕ → List A → Reader (List A)
+  many zero done = pure done
+  many (suc left) done = do
+    a ← read done
+    many left (done ++ (a ∷ []))
+
+-- a line
+unfoldable pub lineOf : List ℕ → Line
+lineOf x = record { attribute = attributeOf (at x 0); initial = drop 1 x }
+
+unfoldable pub readLine : List Line → Reader Line
+readLine done = do
   x ← item lineLength
   ask 4 (question4 (at x 0))
-  readLines left (done ++ (record { attribute = attributeOf (at x 0); initial = drop 1 x } ∷ []))
+  pure (lineOf x)
 
--- the instruction that an entry holds; `done` are those before it
+unfoldable pub readLines : Reader (List Line)
+readLines = do
+  n ← byte
+  ask 3 (question3 n)
+  many readLine n []
+
+-- an instruction of processor p; `done` are those before it
 unfoldable pub instructionOf : ℕ → ℕ → List Instruction → List ℕ → Instruction
 instructionOf processors p done x = record {
   number = length done;
@@ -146,51 +166,56 @@ instructionOf processors p done x = record {
   bytes = take (at x 2) (drop 3 x);
 }
 
--- the instructions of processor p
-unfoldable pub readEntries : ℕ → ℕ → ℕ → ℕ → List Instruction → Reader (List Instruction)
-readEntries processors lines p zero done = pure done
-readEntries processors lines p (suc left) done = do
+unfoldable pub readInstruction : ℕ → ℕ → ℕ → List Instruction → Reader Instruction
+readInstruction processors lines p done = do
   x ← item entryLength
   ask 6 (question6 (at x 0))
   ask 7 (question7 (kindOf (at x 0)) (at x 2))
   ask 8 (question8 lines (kindOf (at x 0)) (at x 2) (at x 1))
   ask 9 (question9 (at x 2) (drop 3 x))
-  readEntries processors lines p left (done ++ (instructionOf processors p done x ∷ []))
+  pure (instructionOf processors p done x)
 
 -- the program of processor p, from its count on
 unfoldable pub readProgram : ℕ → ℕ → ℕ → List Instruction → Reader (List Instruction)
 readProgram processors lines p done = do
   n ← byte
   ask 5 (question5 done n)
-  readEntries processors lines p n done
+  many (readInstruction processors lines p) n done
 
--- the programs from processor p on
+-- the programs of so many processors, from processor p on
 unfoldable pub readPrograms : ℕ → ℕ → ℕ → ℕ → List Instruction → Reader (List Instruction)
 readPrograms processors lines p zero done = pure done
 readPrograms processors lines p (suc left) done = do
   more ← readProgram processors lines p done
   readPrograms processors lines (suc p) left more
 
-unfoldable pub readPairs : List Instruction → ℕ → List (ℕ × ℕ) → Reader (List (ℕ × ℕ))
-readPairs is zero done = pure done
-readPairs is (suc left) done = do
-  x ← item 2
+unfoldable pub readInstructions : ℕ → ℕ → Reader (List Instruction)
+readInstructions processors lines = do
+  is ← readPrograms processors lines 0 processors []
+  ask 10 (question10 is)
+  ask 11 (question11 (operationCount processors is))
+  pure is
+
+-- a dependence pair; `done` are those before it
+unfoldable pub readPair : List Instruction → List (ℕ × ℕ) → Reader (ℕ × ℕ)
+readPair is done = do
+  x ← item pairLength
   ask 13 (question13 is (at x 0) (at x 1))
   ask 14 (question14 done (at x 0) (at x 1))
-  readPairs is left (done ++ ((at x 0, at x 1) ∷ []))
+  pure (at x 0, at x 1)
+
+unfoldable pub readPairs : List Instruction → Reader (List (ℕ × ℕ))
+readPairs is = do
+  n ← byte
+  ask 12 (question12 n)
+  many (readPair is) n []
 
 unfoldable pub readRecord : Reader Execution
 readRecord = do
   p ← byte
   ask 2 (question2 p)
-  n ← byte
-  ask 3 (question3 n)
-  lines ← readLines n []
-  is ← readPrograms p n 0 p []
-  ask 10 (question10 is)
-  ask 11 (question11 (operationCount p is))
-  k ← byte
-  ask 12 (question12 k)
-  pairs ← readPairs is k []
+  lines ← readLines
+  is ← readInstructions p (length lines)
+  pairs ← readPairs is
   question15
   pure (record { processors = p; lines = lines; instructions = is; pairs = pairs })
