@@ -1,5 +1,8 @@
 -- Laws of tests.
+use Prim.Native.Nat.{ℕ}
 use mathlib.Core.Path.{_≡_, refl, sym}
+use lib.Dec.{eqb}
+use borrow.Author.Tests.{eq-eqb, eqb-true}
 use mathlib.Core.Bool.{Bool, true, false, not, _&&_, _||_, Bool·beq, false≢true}
 
 -- by cases on a test, with its equation
@@ -36,3 +39,6 @@ beq-same true true h = refl
 beq-same true false h = absurd (false≢true h)
 beq-same false true h = absurd (false≢true h)
 beq-same false false h = refl
+
+pub eqb-swap : (a b : ℕ) → eqb a b ≡ eqb b a
+eqb-swap a b = agree (eqb a b) (eqb b a) (λ h. eq-eqb b a (sym (eqb-true a b h))) (λ h. eq-eqb a b (sym (eqb-true b a h)))

@@ -4,7 +4,7 @@ use native.Mathlib.Omega.{arith}
 use native.Mathlib.Decide.{ℕ-discrete}
 use mathlib.Core.Path.{_≡_, refl, sym, ap, _∙_, subst}
 use mathlib.Core.Bool.{Bool, true, false, not, cond, _&&_, _||_, and-true, and-assoc, or-false, or-assoc, false≢true}
-use mathlib.Core.List.{List, [], _∷_, _++_, append-nil, List·Memᴰ, List·Memᴰ·head, List·Memᴰ·tail, List·Memᴰ·not-nil, List·Memᴰ·append-cases, Memᴰ·append-left, Memᴰ·append-right}
+use mathlib.Core.List.{List, [], _∷_, _++_, append-nil, map, map-append, List·Memᴰ, List·Memᴰ·head, List·Memᴰ·tail, List·Memᴰ·not-nil, List·Memᴰ·append-cases, Memᴰ·append-left, Memᴰ·append-right}
 use mathlib.Core.Logic.{_⊎_, inl, inr}
 use lib.Dec.{eqb, ltb}
 use lib.ListN.{length}
@@ -147,6 +147,10 @@ module _ {A B : Type 0} where
   any-for p [] f = refl
   any-for p (a ∷ l) f = any-append p (f a) (for l f) ∙ ap (λ (t : Bool). any p (f a) || t) (any-for p l f)
 
+  pub map-same : (f g : A → B) (l : List A) → ((a : A) → List·Memᴰ a l → f a ≡ g a) → map f l ≡ map g l
+  map-same f g [] h = refl
+  map-same f g (a ∷ l) h = cc (h a (List·Memᴰ·head refl), map-same f g l (λ b m. h b (List·Memᴰ·tail m)))
+
 -- the numbers of `count` and `below`
 pub in-count : (from n a : ℕ) → from ≤ a → a < from + n → List·Memᴰ a (count from n)
 unfolding count
@@ -168,6 +172,15 @@ unfolding count
 length-count from zero = refl
 length-count from (suc n) = ap suc (length-count (suc from) n)
 
+pub count-more : (from n : ℕ) → count from (suc n) ≡ count from n ++ ((from + n) ∷ [])
+unfolding count
+count-more from zero = ap (λ (k : ℕ). k ∷ []) (omega arith)
+count-more from (suc n) = ap (λ (l : List ℕ). from ∷ l) (count-more (suc from) n ∙ ap (λ (k : ℕ). count (suc from) n ++ (k ∷ [])) (omega arith))
+
+pub below-more : (n : ℕ) → below (suc n) ≡ below n ++ (n ∷ [])
+unfolding below
+below-more n = count-more 0 n ∙ ap (λ (k : ℕ). count 0 n ++ (k ∷ [])) (omega arith)
+
 pub in-below : (n a : ℕ) → a < n → List·Memᴰ a (below n)
 unfolding below
 in-below n a h = in-count 0 n a (omega arith) (omega arith)
@@ -175,6 +188,12 @@ in-below n a h = in-count 0 n a (omega arith) (omega arith)
 pub of-below : (n : ℕ) {a : ℕ} → List·Memᴰ a (below n) → a < n
 unfolding below
 of-below n m = let (h, k) = of-count 0 n m in omega arith
+
+-- a list made number by number, one longer
+pub map-below-more : {A : Type 0} (f g : ℕ → A) (n : ℕ) → ((k : ℕ) → k < n → f k ≡ g k) → map f (below (suc n)) ≡ map g (below n) ++ (f n ∷ [])
+map-below-more {A} f g n h =
+    ap (map f) (below-more n) ∙ map-append f (below n) (n ∷ [])
+    ∙ ap (λ (l : List A). l ++ (f n ∷ [])) (map-same f g (below n) (λ k m. h k (of-below n m)))
 
 -- `member` is membership
 pub member-in : (l : List ℕ) (a : ℕ) → member l a ≡ true → List·Memᴰ a l

@@ -142,8 +142,8 @@ module _ {A : Type 0} (read : List A → Reader A) where
 unfoldable pub lineOf : List ℕ → Line
 lineOf x = record { attribute = attributeOf (at x 0); initial = drop 1 x }
 
-unfoldable pub readLine : List Line → Reader Line
-readLine done = do
+unfoldable pub readLine : Reader Line
+readLine = do
   x ← item lineLength
   ask 4 (question4 (at x 0))
   pure (lineOf x)
@@ -152,7 +152,7 @@ unfoldable pub readLines : Reader (List Line)
 readLines = do
   n ← byte
   ask 3 (question3 n)
-  many readLine n []
+  many (λ done. readLine) n []
 
 -- an instruction of processor p; `done` are those before it
 unfoldable pub instructionOf : ℕ → ℕ → List Instruction → List ℕ → Instruction

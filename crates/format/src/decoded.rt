@@ -1,0 +1,73 @@
+// The decoded execution as flat arrays of numbers, and how far a section of the record was read.
+ghost use mathlib.Core.Path.{_≡_};
+ghost use Prim.Native.Nat.{ℕ, _+_, _*_, _<_, _≤_};
+ghost use lib.ListN.{length, drop};
+ghost use lib.Seq.{paste};
+
+// The number of an instruction, from 0 through the record.
+pub struct InstructionNo(pub usize);
+
+// The number of an operation, from 0 through the record.
+pub struct OperationNo(pub usize);
+
+// The lines of memory. Line k's initial bytes are the eight from 8k on.
+pub struct Lines {
+    pub count: usize,
+    pub attributes: [u8; 8],
+    pub initial: [u8; 64],
+}
+
+// The instructions by number, and the number of their operations. Instruction i's data are the eight of `bytes` from 8i on.
+pub struct Instructions {
+    pub count: usize,
+    pub operations: usize,
+    pub processors: [u8; 40],
+    pub kinds: [u8; 40],
+    pub addresses: [u8; 40],
+    pub sizes: [u8; 40],
+    pub firsts: [u16; 40],
+    pub bytes: [u8; 320],
+}
+
+// The dependence pairs: numbers of the earlier and the later instruction.
+pub struct Pairs {
+    pub count: usize,
+    pub earlier: [u8; 40],
+    pub later: [u8; 40],
+}
+
+pub struct Execution {
+    pub processors: usize,
+    pub lines: Lines,
+    pub instructions: Instructions,
+    pub pairs: Pairs,
+}
+
+// What reading a part of the record comes to: the question that fails, or the index after what was read.
+pub enum Step {
+    Refused(u8),
+    Next(usize),
+}
+
+// What the questions of one item come to.
+pub enum Asked {
+    Pass,
+    Fail(u8),
+}
+
+// A byte as a number.
+pub fn wide(b: u8) -> usize
+    ensures { λ r. ⌜ (r ≡ b) × (r < 256) ⌝ }
+{
+    b as usize
+}
+
+// Eight bytes of `from`, from index `start` on, into `to` from index `at` on.
+pub fn copy_eight(to: &mut [u8], at: usize, from: &[u8], start: usize)
+    requires { ⌜ (at + 8 ≤ length (now to)) × (start + 8 ≤ length (now from)) ⌝ }
+    ensures { λ _. ⌜ now (to .exit) ≡ paste (now (to .entry)) at (drop start (now (from .entry))) 8 ⌝ }
+{
+    for j in 0..8 {
+        to[at + j] = from[start + j];
+    }
+}

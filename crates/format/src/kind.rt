@@ -1,0 +1,112 @@
+// Kinds of instructions and attributes of lines, by their numbers in the record; what a kind means.
+ghost use mathlib.Core.Path.{_≡_};
+ghost use Prim.Native.Nat.{ℕ, _+_, _<_, _≤_};
+ghost use lib.ListN.{length};
+ghost use Rattle.model.specs.Execution.{kindOf, attributeOf, isLoad, isStore, isAcquire, isRelease, isFence, roles};
+ghost use Rattle.format.specs.Kinds.{meant, attributeMeant};
+
+pub enum Kind {
+    Ld,
+    LdAcq,
+    St,
+    StRel,
+    Mf,
+}
+
+// The kind of a number from 0 to 4.
+pub fn kind_of(k: u8) -> Kind
+    ensures { λ r. ⌜ meant r ≡ kindOf k ⌝ }
+{
+    match k {
+        0 => Kind::Ld,
+        1 => Kind::LdAcq,
+        2 => Kind::St,
+        3 => Kind::StRel,
+        _ => Kind::Mf,
+    }
+}
+
+pub fn is_load(k: Kind) -> bool
+    ensures { λ r. ⌜ r ≡ isLoad (meant k) ⌝ }
+{
+    match k {
+        Kind::Ld => true,
+        Kind::LdAcq => true,
+        Kind::St => false,
+        Kind::StRel => false,
+        Kind::Mf => false,
+    }
+}
+
+pub fn is_store(k: Kind) -> bool
+    ensures { λ r. ⌜ r ≡ isStore (meant k) ⌝ }
+{
+    match k {
+        Kind::Ld => false,
+        Kind::LdAcq => false,
+        Kind::St => true,
+        Kind::StRel => true,
+        Kind::Mf => false,
+    }
+}
+
+pub fn is_acquire(k: Kind) -> bool
+    ensures { λ r. ⌜ r ≡ isAcquire (meant k) ⌝ }
+{
+    match k {
+        Kind::Ld => false,
+        Kind::LdAcq => true,
+        Kind::St => false,
+        Kind::StRel => false,
+        Kind::Mf => false,
+    }
+}
+
+pub fn is_release(k: Kind) -> bool
+    ensures { λ r. ⌜ r ≡ isRelease (meant k) ⌝ }
+{
+    match k {
+        Kind::Ld => false,
+        Kind::LdAcq => false,
+        Kind::St => false,
+        Kind::StRel => true,
+        Kind::Mf => false,
+    }
+}
+
+pub fn is_fence(k: Kind) -> bool
+    ensures { λ r. ⌜ r ≡ isFence (meant k) ⌝ }
+{
+    match k {
+        Kind::Ld => false,
+        Kind::LdAcq => false,
+        Kind::St => false,
+        Kind::StRel => false,
+        Kind::Mf => true,
+    }
+}
+
+// The number of operations that an instruction gives: R; LV and an RV for each processor; F.
+pub fn operation_count(k: Kind, processors: usize) -> usize
+    requires { ⌜ processors ≤ 8 ⌝ }
+    ensures { λ r. ⌜ r ≡ length (roles processors (meant k)) ⌝ }
+{
+    if is_store(k) { 1 + processors } else { 1 }
+}
+
+pub enum Attribute {
+    WB,
+    UC,
+    WC,
+}
+
+// The attribute of a number from 0 to 2.
+pub fn attribute_of(a: u8) -> Attribute
+    ensures { λ r. ⌜ attributeMeant r ≡ attributeOf a ⌝ }
+{
+    match a {
+        0 => Attribute::WB,
+        1 => Attribute::UC,
+        _ => Attribute::WC,
+    }
+}
