@@ -7,7 +7,7 @@ use mathlib.Core.Bool.{Bool, true, false, not, cond, _&&_, _||_, and-true, and-a
 use mathlib.Core.List.{List, [], _∷_, _++_, append-nil, map, map-append, List·Memᴰ, List·Memᴰ·head, List·Memᴰ·tail, List·Memᴰ·not-nil, List·Memᴰ·append-cases, Memᴰ·append-left, Memᴰ·append-right}
 use mathlib.Core.Logic.{_⊎_, inl, inr}
 use lib.Dec.{eqb, ltb}
-use lib.ListN.{length}
+use lib.ListN.{length, getD}
 use lib.Seq.{append-snoc}
 use borrow.Author.Tests.{eq-eqb, eqb-true, ltb-true}
 use Rattle.base.specs.Lists.{all, any, keep, when, for, count, below, member, distinct}
@@ -188,6 +188,17 @@ in-below n a h = in-count 0 n a (omega arith) (omega arith)
 pub of-below : (n : ℕ) {a : ℕ} → List·Memᴰ a (below n) → a < n
 unfolding below
 of-below n m = let (h, k) = of-count 0 n m in omega arith
+
+-- element i of a list made number by number
+pub getD-count : {A : Type 0} (f : ℕ → A) (d : A) (from n i : ℕ) → i < n → getD (map f (count from n)) i d ≡ f (from + i)
+unfolding count
+getD-count f d from zero i h = absurd (omega arith)
+getD-count f d from (suc n) zero h = ap f (omega arith)
+getD-count f d from (suc n) (suc i) h = getD-count f d (suc from) n i (omega arith) ∙ ap f (omega arith)
+
+pub getD-below : {A : Type 0} (f : ℕ → A) (d : A) (n i : ℕ) → i < n → getD (map f (below n)) i d ≡ f i
+unfolding below
+getD-below f d n i h = getD-count f d 0 n i h ∙ ap f (omega arith)
 
 -- a list made number by number, one longer
 pub map-below-more : {A : Type 0} (f g : ℕ → A) (n : ℕ) → ((k : ℕ) → k < n → f k ≡ g k) → map f (below (suc n)) ≡ map g (below n) ++ (f n ∷ [])

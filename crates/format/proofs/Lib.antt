@@ -6,3 +6,5 @@ pub mod LineLaws
 pub mod EntryLaws
 pub mod InstructionLaws
 pub mod ProgramLaws
+pub mod PairLaws
+pub mod ReadingLaws

@@ -1,5 +1,5 @@
 -- What the decoded arrays hold, in the model's terms.
-use Prim.Native.Nat.{ℕ, _*_, _≤_}
+use Prim.Native.Nat.{ℕ, _+_, _*_, _≤_}
 use mathlib.Core.Path.{_≡_}
 use mathlib.Core.List.{List, map}
 use lib.ListN.{getD, take, drop}
@@ -49,6 +49,10 @@ pairAt x k = (getD (x .earlier) k 0, getD (x .later) k 0)
 
 unfoldable pub pairsOf : Pairs → List (ℕ × ℕ)
 pairsOf x = map (pairAt x) (below (x .count))
+
+-- the pair at an index of the record
+abbrev pub pairOf : List ℕ → ℕ → ℕ × ℕ
+pairOf part at = (getD part at 0, getD part (at + 1) 0)
 
 -- the execution that the decoded arrays hold
 unfoldable pub executionOf : Execution → model.Execution

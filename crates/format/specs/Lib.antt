@@ -2,3 +2,4 @@
 pub mod Kinds
 pub mod Decoded
 pub mod Steps
+pub mod Readings

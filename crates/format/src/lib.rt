@@ -2,4 +2,6 @@
 pub mod decoded;
 pub mod kind;
 mod lines;
+mod pairs;
 mod programs;
+pub mod reader;

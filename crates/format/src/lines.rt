@@ -61,7 +61,7 @@ fn with_line(x: Lines, part: &[u8], at: usize) -> Lines
 // So many lines, after their count.
 fn line_entries(part: &[u8], n: u8) -> LinesRead
     requires { ⌜ (n ≤ 8) × (1 ≤ length (now part)) ⌝ }
-    ensures { λ r. ⌜ Walked (many (λ done. readLine) n [] (drop 1 (now (part .entry)))) (now (part .entry)) (r .step) (linesOf (r .lines)) ⌝ }
+    ensures { λ r. ⌜ Walked (many (λ done. readLine) n [] (drop 1 (now (part .entry)))) (now (part .entry)) (r .step) (linesOf (r .lines)) × (r .lines .count ≤ 8) ⌝ }
 {
     let mut lines = no_lines();
     let mut at = 1;
@@ -88,7 +88,7 @@ fn line_entries(part: &[u8], n: u8) -> LinesRead
 
 // The lines, from their count on.
 pub fn read_lines(part: &[u8]) -> LinesRead
-    ensures { λ r. ⌜ Walked (readLines (now (part .entry))) (now (part .entry)) (r .step) (linesOf (r .lines)) ⌝ }
+    ensures { λ r. ⌜ Walked (readLines (now (part .entry))) (now (part .entry)) (r .step) (linesOf (r .lines)) × (r .lines .count ≤ 8) ⌝ }
 {
     if part.len() < 1 {
         return LinesRead {

@@ -36,9 +36,11 @@ enum-known-asked c = search needs
 
 returns : tie.Need-returns Inv-loop μ-loop
 returns c =
-    let turn = c .before .before .before .before .before in
-    going-fails (turn .loop .inv .0) (c .before .before .before .before .loop-test .taken) (c .before .before .before .line-question .ensures)
-    (c .before .asked .given .1)
+    let turn = c .before .before .before .before .before in (
+      going-fails (turn .loop .inv .0) (c .before .before .before .before .loop-test .taken) (c .before .before .before .line-question .ensures)
+          (c .before .asked .given .1),
+      omega (arith, turn .loop .inv .1),
+    )
 
 enum-told : tie.Need-enum-told Inv-loop μ-loop
 enum-told c = search needs
@@ -66,7 +68,7 @@ loop-again c =
     )
 
 returns-2 : tie.Need-returns-2 Inv-loop μ-loop
-returns-2 c = going-ends (c .before .loop .inv .0) (c .loop-test .left)
+returns-2 c = (going-ends (c .before .loop .inv .0) (c .loop-test .left), omega (arith, c .before .loop .inv .1))
 
 pub line-entries-spec : {M : Type 1} → statement M
 line-entries-spec =
