@@ -2,6 +2,8 @@
 use Rattle.model.specs.Execution as model
 use Rattle.format.specs.declared.kind.Kind.{Kind}
 use Rattle.format.specs.declared.kind.Kind.the-variants.{Ld, LdAcq, St, StRel, Mf}
+use Rattle.format.specs.declared.kind.Role.{Role}
+use Rattle.format.specs.declared.kind.Role.the-variants.{R, LV, F, RV}
 use Rattle.format.specs.declared.kind.Attribute.{Attribute}
 use Rattle.format.specs.declared.kind.Attribute.the-variants.{WB, UC, WC}
 
@@ -11,6 +13,12 @@ meant LdAcq = model.ld-acq
 meant St = model.st
 meant StRel = model.st-rel
 meant Mf = model.mf
+
+abbrev pub roleMeant : Role → model.Role
+roleMeant R = model.R
+roleMeant LV = model.LV
+roleMeant F = model.F
+roleMeant (RV q) = model.RV q
 
 abbrev pub attributeMeant : Attribute → model.Attribute
 attributeMeant WB = model.WB

@@ -1,9 +1,9 @@
 // Kinds of instructions and attributes of lines, by their numbers in the record; what a kind means.
 ghost use mathlib.Core.Path.{_≡_};
-ghost use Prim.Native.Nat.{ℕ, _+_, _<_, _≤_};
-ghost use lib.ListN.{length};
-ghost use Rattle.model.specs.Execution.{kindOf, attributeOf, isLoad, isStore, isAcquire, isRelease, isFence, roles};
-ghost use Rattle.format.specs.Kinds.{meant, attributeMeant};
+ghost use Prim.Native.Nat.{ℕ, _+_, _/_, _<_, _≤_};
+ghost use lib.ListN.{length, getD};
+ghost use Rattle.model.specs.Execution.{F, kindOf, attributeOf, isLoad, isStore, isAcquire, isRelease, isFence, roles};
+ghost use Rattle.format.specs.Kinds.{meant, roleMeant, attributeMeant};
 
 pub enum Kind {
     Ld,
@@ -86,6 +86,31 @@ pub fn is_fence(k: Kind) -> bool
     }
 }
 
+// What an operation is to its instruction.
+pub enum Role {
+    R,
+    LV,
+    F,
+    RV(usize),
+}
+
+// The role of an instruction's operation by its place among them.
+pub fn role_of(k: Kind, place: usize) -> Role
+    ensures { λ r. ⌜ ((processors : ℕ) → place < length (roles processors (meant k)) → roleMeant r ≡ getD (roles processors (meant k)) place F) ⌝ }
+{
+    if is_store(k) {
+        if place == 0 {
+            return Role::LV;
+        }
+        let q = place - 1;
+        return Role::RV(q);
+    }
+    if is_load(k) {
+        return Role::R;
+    }
+    Role::F
+}
+
 // The number of operations that an instruction gives: R; LV and an RV for each processor; F.
 pub fn operation_count(k: Kind, processors: usize) -> usize
     requires { ⌜ processors ≤ 8 ⌝ }
@@ -109,4 +134,12 @@ pub fn attribute_of(a: u8) -> Attribute
         1 => Attribute::UC,
         _ => Attribute::WC,
     }
+}
+
+// The attribute of the line of an address.
+pub fn attribute_at(attributes: &[u8; 8], address: usize) -> Attribute
+    requires { ⌜ address < 64 ⌝ }
+    ensures { λ r. ⌜ attributeMeant r ≡ attributeOf (getD (now (attributes .entry)) (address / 8) 0) ⌝ }
+{
+    attribute_of(attributes[address / 8])
 }

@@ -1,0 +1,36 @@
+-- The reader's answer as a number.
+use mathlib.Core.Path.{sym, ap, _∙_}
+use Rattle.capi.specs.Numbers.{checkNumber}
+use Rattle.format.specs.Readings.{answerMeant}
+use borrow.Author.Needs.{needs}
+use Rattle.capi.proofs.oglindesh_check.Statement.{statement}
+use Rattle.capi.proofs.oglindesh_check.Tie as tie
+use Rattle.capi.proofs.oglindesh_check.Reads as reads
+use Rattle.capi.proofs.oglindesh_check.Lts as lts
+use Rattle.format.proofs.reader.read.Reads as read-reads
+
+read-requires : tie.Need-read-requires
+read-requires c κs = search needs
+
+enum-told : tie.Need-enum-told
+enum-told c = search needs
+
+enum-known-answer : tie.Need-enum-known-answer
+enum-known-answer c = search needs
+
+cast-result : tie.Need-cast-result
+cast-result c = search needs
+
+add-result : tie.Need-add-result
+add-result c = search needs
+
+returns : tie.Need-returns
+returns c = sym (ap checkNumber (c .before .before .read .ensures ∙ ap (λ t. answerMeant t (c .before .before .read .result .execution)) (c .enum-told .given .1)))
+
+returns-2 : tie.Need-returns-2
+returns-2 c = sym (ap checkNumber (c .before .before .before .read .ensures ∙ ap (λ t. answerMeant t (c .before .before .before .read .result .execution)) (c .before .answer .given .1)))
+
+pub oglindesh-check-spec : {M : Type 1} → statement M
+oglindesh-check-spec =
+    tie.close
+    (tie.spec read-requires enum-told enum-known-answer cast-result add-result returns returns-2)

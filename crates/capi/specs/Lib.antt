@@ -1,0 +1,2 @@
+-- The numbers that the calls return.
+pub mod Numbers

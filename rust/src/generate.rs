@@ -1,0 +1,432 @@
+//! Random records, orders and positions: well-formed ones, and damaged ones for every question.
+
+use crate::random::Random;
+use crate::reference::notation::access;
+use crate::reference::record::{
+    is_dependence, Attribute, Execution, Instruction, Kind, Line, Role, INSTRUCTION_ITEM,
+    LINE_ITEM, LINE_SIZE, MAX_INSTRUCTIONS, MAX_LINES, MAX_OPERATIONS, MAX_PAIRS, MAX_PROCESSORS,
+};
+use crate::reference::rules::{byte_read, lowest_broken, Settled};
+
+/// How large an execution may become; one store fits in any case.
+#[derive(Clone, Copy, Debug)]
+pub struct Shape {
+    pub processors: usize,
+    pub lines: usize,
+    pub instructions: usize,
+    pub operations: usize,
+}
+
+impl Shape {
+    /// All lists of different operations can be tried one by one.
+    pub const TINY: Shape = Shape {
+        processors: 3,
+        lines: 2,
+        instructions: 4,
+        operations: 6,
+    };
+    /// The brute-force search gets far in little time.
+    pub const SMALL: Shape = Shape {
+        processors: 4,
+        lines: 3,
+        instructions: 8,
+        operations: 16,
+    };
+    /// Everything that a record may hold.
+    pub const LARGE: Shape = Shape {
+        processors: MAX_PROCESSORS,
+        lines: MAX_LINES,
+        instructions: MAX_INSTRUCTIONS,
+        operations: MAX_OPERATIONS,
+    };
+}
+
+/// Most operations for which a random order is tried out to give the loads their values.
+const MAX_TRIED: usize = 24;
+
+/// A well-formed execution within the shape. Both allowed and forbidden ones are frequent.
+pub fn execution(random: &mut Random, shape: &Shape) -> Execution {
+    let processors = random.between(1, shape.processors);
+    let lines = lines(random, shape.lines);
+    let instructions = instructions(random, shape, processors, lines.len());
+    let mut execution = Execution::new(processors, lines, instructions, Vec::new());
+    execution.pairs = pairs(random, &execution);
+    give_values(random, &mut execution);
+    execution
+}
+
+/// The smaller of two numbers of lines, so that more accesses share one.
+fn lines(random: &mut Random, most: usize) -> Vec<Line> {
+    let count = random.between(1, most).min(random.between(1, most));
+    let attributes = if random.once_in(2) {
+        Attribute::ALL.to_vec()
+    } else {
+        vec![random.pick(&Attribute::ALL)]
+    };
+    let values = random.between(1, 3);
+    let line = |_| Line {
+        attribute: random.pick(&attributes),
+        initial: std::array::from_fn(|_| random.below(values) as u8),
+    };
+    (0..count).map(line).collect()
+}
+
+/// Instructions as long as their operations fit, in the order of their processors.
+fn instructions(
+    random: &mut Random,
+    shape: &Shape,
+    processors: usize,
+    lines: usize,
+) -> Vec<Instruction> {
+    let most = shape.instructions;
+    let wanted = random.between(1, most).max(random.between(1, most));
+    let mut room = shape.operations;
+    let mut chosen = Vec::new();
+    for _ in 0..wanted {
+        let instruction = instruction(random, processors, lines);
+        let operations = if instruction.kind.is_store() {
+            1 + processors
+        } else {
+            1
+        };
+        if operations <= room {
+            room -= operations;
+            chosen.push(instruction);
+        }
+    }
+    chosen.sort_by_key(|instruction| instruction.processor);
+    chosen
+}
+
+/// One instruction; most accesses begin at the start of a line, so that many overlap.
+fn instruction(random: &mut Random, processors: usize, lines: usize) -> Instruction {
+    use Kind::{Fence, Load, LoadAcquire, Store, StoreRelease};
+    let kind = random.pick(&[
+        Load,
+        Load,
+        Load,
+        LoadAcquire,
+        LoadAcquire,
+        Store,
+        Store,
+        Store,
+        StoreRelease,
+        StoreRelease,
+        Fence,
+    ]);
+    let processor = random.below(processors);
+    if kind == Fence {
+        let fence = access(kind, 0, &[]);
+        return Instruction { processor, ..fence };
+    }
+    let size = random.pick(&[1, 1, 2, 4, 8]);
+    let slot = if random.once_in(3) {
+        random.below(LINE_SIZE / size)
+    } else {
+        0
+    };
+    let address = random.below(lines) * LINE_SIZE + slot * size;
+    let data: Vec<u8> = (0..size).map(|_| random.between(1, 9) as u8).collect();
+    Instruction {
+        processor,
+        ..access(kind, address as u8, &data)
+    }
+}
+
+/// All pairs that question 13 passes, in question 14's order.
+fn possible_pairs(execution: &Execution) -> Vec<(u8, u8)> {
+    let count = execution.instructions.len() as u8;
+    (0..count)
+        .flat_map(|first| (first + 1..count).map(move |second| (first, second)))
+        .filter(|&pair| is_dependence(execution, pair))
+        .collect()
+}
+
+fn pairs(random: &mut Random, execution: &Execution) -> Vec<(u8, u8)> {
+    let rarity = random.pick(&[2, 6, 1000]);
+    let mut pairs = possible_pairs(execution);
+    pairs.retain(|_| random.once_in(rarity));
+    pairs.truncate(MAX_PAIRS);
+    pairs
+}
+
+/// Gives the loads their data: guessed, or as a random order shows them, or with one of those changed.
+fn give_values(random: &mut Random, execution: &mut Execution) {
+    let loads: Vec<usize> = execution.loads().collect();
+    for &load in &loads {
+        guess_value(random, execution, load);
+    }
+    if execution.operation_count() > MAX_TRIED || random.once_in(3) {
+        return;
+    }
+    grow(random, execution, MAX_OPERATIONS, true);
+    if !loads.is_empty() && !random.once_in(4) {
+        let load = random.pick(&loads);
+        guess_value(random, execution, load);
+    }
+}
+
+/// The load saw one overlapping store, or none, over the initial bytes; rarely something else.
+fn guess_value(random: &mut Random, execution: &mut Execution, load: usize) {
+    let mut sources: Vec<Option<usize>> = vec![None];
+    let overlapping = execution.stores().filter(|&w| execution.overlap(w, load));
+    sources.extend(overlapping.map(Some));
+    let source = random.pick(&sources).map(|w| execution.instructions[w]);
+    let mut seen = execution.instructions[load];
+    for address in seen.addresses() {
+        let byte = match source {
+            Some(store) if store.covers(address) => store.byte_at(address),
+            _ if random.once_in(20) => random.byte(),
+            _ => execution.initial(address),
+        };
+        seen.data[address - usize::from(seen.address)] = byte;
+    }
+    execution.instructions[load] = seen;
+}
+
+/// Grows a random consistent prefix up to this length, or until nothing fits. With `give`, each
+/// load gets the data that rule 11 gives it where it comes to stand.
+fn grow(random: &mut Random, execution: &mut Execution, length: usize, give: bool) -> Vec<u8> {
+    let mut left: Vec<u8> = (0..execution.operation_count() as u8).collect();
+    let mut prefix = Vec::new();
+    while prefix.len() < length {
+        random.shuffle(&mut left);
+        let fit = left.iter().position(|&candidate| {
+            prefix.push(candidate);
+            if give {
+                give_seen(execution, &prefix);
+            }
+            let fits = lowest_broken(execution, &prefix).is_none();
+            prefix.pop();
+            fits
+        });
+        match fit {
+            Some(at) => prefix.push(left.swap_remove(at)),
+            None => break,
+        }
+    }
+    prefix
+}
+
+/// If the prefix ends in an R, gives its load the data that rule 11 says.
+fn give_seen(execution: &mut Execution, prefix: &[u8]) {
+    let Some(&last) = prefix.last() else { return };
+    let operation = execution.operations[usize::from(last)];
+    if operation.role != Role::Read {
+        return;
+    }
+    let settled = Settled::by(prefix);
+    let mut seen = execution.instructions[operation.instruction];
+    for (at, address) in seen.addresses().enumerate() {
+        seen.data[at] = byte_read(execution, &settled, operation.instruction, address);
+    }
+    execution.instructions[operation.instruction] = seen;
+}
+
+/// A random consistent prefix, full or not.
+pub fn consistent_prefix(random: &mut Random, execution: &Execution) -> Vec<u8> {
+    let length = random.between(0, execution.operation_count());
+    grow(random, &mut execution.clone(), length, false)
+}
+
+/// All operations in a random order.
+pub fn order(random: &mut Random, count: usize) -> Vec<u8> {
+    let mut order: Vec<u8> = (0..count as u8).collect();
+    random.shuffle(&mut order);
+    order
+}
+
+/// Changes the entries of an order or position a little: some entry, two places, or the length.
+pub fn damage_entries(random: &mut Random, entries: &mut Vec<u8>) {
+    if entries.is_empty() || random.once_in(5) {
+        entries.push(random.byte());
+        return;
+    }
+    let (at, other) = (random.below(entries.len()), random.below(entries.len()));
+    match random.below(4) {
+        0 => entries.truncate(at),
+        1 => entries[at] = random.byte(),
+        2 => entries[at] = entries[other],
+        _ => entries.swap(at, other),
+    }
+}
+
+/// A record with untargeted damage; some of these still pass.
+pub fn damaged(random: &mut Random, execution: &Execution) -> Vec<u8> {
+    let mut bytes = execution.to_bytes();
+    let at = random.below(bytes.len());
+    match random.below(6) {
+        0 => bytes[at] ^= 1 << random.below(8),
+        1 => bytes[at] = random.byte(),
+        2 => bytes[at] = random.below(4) as u8,
+        3 => bytes.truncate(at),
+        4 => bytes.extend((0..random.between(1, 12)).map(|_| random.byte())),
+        _ => bytes = (0..at).map(|_| random.below(12) as u8).collect(),
+    }
+    bytes
+}
+
+/// A record whose first 'no' is this question, from 1 to 15.
+pub fn failing(random: &mut Random, question: u8) -> Vec<u8> {
+    loop {
+        let execution = execution(random, &Shape::SMALL);
+        let failing = match question {
+            1..=5 => Some(fail_count(random, &execution, question)),
+            6..=9 => fail_instruction(random, &execution, question),
+            10..=11 => Some(fail_programs(random, execution, question)),
+            12..=14 => fail_pairs(random, execution, question),
+            _ => Some(lengthened(random, &execution)),
+        };
+        if let Some(bytes) = failing {
+            return bytes;
+        }
+    }
+}
+
+/// Where a record's items begin.
+struct Layout {
+    lines: Vec<usize>,
+    /// By processor: its count, and the instructions of the programs before it.
+    counts: Vec<(usize, usize)>,
+    instructions: Vec<usize>,
+    pair_count: usize,
+}
+
+fn layout(execution: &Execution) -> Layout {
+    let first_line = 2;
+    let line = |number: usize| first_line + number * LINE_ITEM;
+    let mut at = line(execution.lines.len());
+    let mut counts = Vec::new();
+    let mut instructions = Vec::new();
+    for processor in 0..execution.processors {
+        counts.push((at, instructions.len()));
+        at += 1;
+        let program = execution.instructions.iter();
+        for _ in program.filter(|i| i.processor == processor) {
+            instructions.push(at);
+            at += INSTRUCTION_ITEM;
+        }
+    }
+    Layout {
+        lines: (0..execution.lines.len()).map(line).collect(),
+        counts,
+        instructions,
+        pair_count: at,
+    }
+}
+
+/// A random byte of those wanted.
+fn byte_with(random: &mut Random, wanted: impl Fn(u8) -> bool) -> u8 {
+    let bytes: Vec<u8> = (0..=u8::MAX).filter(|&byte| wanted(byte)).collect();
+    random.pick(&bytes)
+}
+
+/// Questions 1 to 5.
+fn fail_count(random: &mut Random, execution: &Execution, question: u8) -> Vec<u8> {
+    let layout = layout(execution);
+    let mut bytes = execution.to_bytes();
+    match question {
+        1 => bytes.truncate(random.below(bytes.len())),
+        2 => bytes[0] = byte_with(random, |p| !(1..=8).contains(&p)),
+        3 => bytes[1] = byte_with(random, |count| !(1..=8).contains(&count)),
+        4 => bytes[random.pick(&layout.lines)] = byte_with(random, |attribute| attribute > 2),
+        _ => {
+            let (at, before) = random.pick(&layout.counts);
+            bytes[at] = byte_with(random, |count| before + usize::from(count) > 40);
+        }
+    }
+    bytes
+}
+
+/// Questions 6 to 9; none if the instruction chosen has no byte that question 9 is about.
+fn fail_instruction(random: &mut Random, execution: &Execution, question: u8) -> Option<Vec<u8>> {
+    let number = random.below(execution.instructions.len());
+    let Instruction { kind, size, .. } = execution.instructions[number];
+    let fence = kind == Kind::Fence;
+    let end = execution.lines.len() * LINE_SIZE;
+    let good_size = |size: u8| {
+        if fence {
+            size == 0
+        } else {
+            [1, 2, 4, 8].contains(&size)
+        }
+    };
+    let good_address = |address: u8| {
+        if fence {
+            address == 0
+        } else {
+            address.is_multiple_of(size) && usize::from(address) < end
+        }
+    };
+    let mut bytes = execution.to_bytes();
+    let at = layout(execution).instructions[number];
+    match question {
+        6 => bytes[at] = byte_with(random, |kind| kind > 4),
+        7 => bytes[at + 2] = byte_with(random, |size| !good_size(size)),
+        8 => bytes[at + 1] = byte_with(random, |address| !good_address(address)),
+        _ if size == 8 => return None,
+        _ => {
+            let spare = random.between(usize::from(size), 7);
+            bytes[at + 3 + spare] = byte_with(random, |byte| byte > 0);
+        }
+    }
+    Some(bytes)
+}
+
+/// Questions 10 and 11: no instruction, or over 128 operations. What follows is any bytes.
+fn fail_programs(random: &mut Random, execution: Execution, question: u8) -> Vec<u8> {
+    let lines = execution.lines;
+    let failing = if question == 10 {
+        Execution::new(execution.processors, lines, Vec::new(), Vec::new())
+    } else {
+        // With fewer than three processors 40 stores stay below the limit.
+        let processors = random.between(3, MAX_PROCESSORS);
+        let stores = MAX_OPERATIONS / (1 + processors) + 1;
+        let store = |_| Instruction {
+            processor: random.below(processors),
+            ..access(Kind::Store, 0, &[1])
+        };
+        let mut stores: Vec<_> = (0..stores).map(store).collect();
+        stores.sort_by_key(|store| store.processor);
+        Execution::new(processors, lines, stores, Vec::new())
+    };
+    let mut bytes = failing.to_bytes();
+    bytes.truncate(layout(&failing).pair_count);
+    bytes.extend((0..random.below(4)).map(|_| random.byte()));
+    bytes
+}
+
+/// Questions 12 to 14; none if question 14 has no pair to ask of.
+fn fail_pairs(random: &mut Random, mut execution: Execution, question: u8) -> Option<Vec<u8>> {
+    let mut bytes = execution.to_bytes();
+    let pair_count = layout(&execution).pair_count;
+    match question {
+        12 => bytes[pair_count] = byte_with(random, |count| usize::from(count) > MAX_PAIRS),
+        13 => {
+            let most = execution.instructions.len() + 1;
+            let pair = loop {
+                let pair = (random.below(most) as u8, random.below(most) as u8);
+                if !is_dependence(&execution, pair) {
+                    break pair;
+                }
+            };
+            bytes[pair_count] += 1;
+            bytes.extend([pair.0, pair.1]);
+        }
+        _ => {
+            let possible = possible_pairs(&execution);
+            let at = random.below(possible.len().max(1));
+            let upper = *possible.get(at)?;
+            execution.pairs = vec![upper, possible[random.between(0, at)]];
+            bytes = execution.to_bytes();
+        }
+    }
+    Some(bytes)
+}
+
+/// Question 15.
+fn lengthened(random: &mut Random, execution: &Execution) -> Vec<u8> {
+    let mut bytes = execution.to_bytes();
+    bytes.extend((0..random.between(1, 4)).map(|_| random.byte()));
+    bytes
+}

@@ -1,0 +1,32 @@
+//! The proved library's calls, wrapped for safe Rust. The numbers that they return are those of `crates/capi`.
+
+mod exported {
+    extern "C" {
+        pub fn oglindesh_check(bytes: *const u8, length: usize) -> u32;
+    }
+}
+
+/// What a refused call returns, less the number of the question.
+const REFUSED: u32 = 256;
+
+/// The question of a number that says 'refused'.
+fn question(number: u32) -> u8 {
+    u8::try_from(number - REFUSED).expect("a refusal is 256 + the number of a question")
+}
+
+/// Whether a record passes questions 1 to 15; if not, the number of the first that it fails.
+///
+/// ```
+/// // One processor, one WB line of zeros, no instruction, no pair: question 10 asks for an instruction.
+/// let mut record = vec![1, 1];
+/// record.extend([0; 9]);
+/// record.extend([0, 0]);
+/// assert_eq!(oglindesh::proved::check(&record), Err(10));
+/// ```
+pub fn check(record: &[u8]) -> Result<(), u8> {
+    // SAFETY: the pointer and the length are those of one slice, which the call only reads.
+    match unsafe { exported::oglindesh_check(record.as_ptr(), record.len()) } {
+        0 => Ok(()),
+        number => Err(question(number)),
+    }
+}

@@ -1,0 +1,496 @@
+//! The search done incrementally: a candidate is tested by what one more operation can newly break.
+//!
+//! All sets are bit masks: of operations (`u128`, at most 128), of stores by instruction number
+//! (`u64`, at most 40), of the bits of a line's eight bytes (`u64`, lowest address in the low
+//! byte). The tests below assume that the prefix without the candidate is consistent.
+
+use super::record::{
+    Attribute, Execution, Instruction, Kind, Role, LINE_SIZE, MAX_INSTRUCTIONS, MAX_LINES,
+    MAX_OPERATIONS, MAX_PROCESSORS,
+};
+use super::search::{accept_position, refusal, SearchAnswer, SearchReply};
+
+/// One search call, with the answers of [`super::search::search`].
+pub fn search(bytes: &[u8], buffer: &mut [u8], saved: usize, allowance: u32) -> SearchReply {
+    let execution = match accept_position(bytes, buffer, saved) {
+        Ok(execution) => execution,
+        Err(question) => return refusal(question, saved),
+    };
+    let tables = Tables::of(&execution);
+    let mut state = State::empty(&tables);
+    for &entry in &buffer[..saved] {
+        let candidate = usize::from(entry);
+        if !state.fits(candidate) {
+            return refusal(21, saved);
+        }
+        state.push(candidate);
+    }
+    let (answer, steps) = run(&mut state, allowance);
+    if answer == SearchAnswer::Forbidden {
+        let length = saved;
+        return SearchReply {
+            answer,
+            steps,
+            length,
+        };
+    }
+    let length = state.length;
+    buffer[..length].copy_from_slice(&state.order[..length]);
+    SearchReply {
+        answer,
+        steps,
+        length,
+    }
+}
+
+/// Steps through the consistent prefixes after the state's, and leaves the position reached in the
+/// state's order and length, except after 'forbidden'.
+fn run(state: &mut State, allowance: u32) -> (SearchAnswer, u32) {
+    if state.is_full() {
+        return (SearchAnswer::Allowed, 0);
+    }
+    for steps in 0..allowance {
+        if !state.advance() {
+            return (SearchAnswer::Forbidden, steps);
+        }
+        if state.is_full() {
+            return (SearchAnswer::Allowed, steps + 1);
+        }
+    }
+    let (order, length) = (state.order, state.length);
+    if !state.advance() {
+        return (SearchAnswer::Forbidden, allowance);
+    }
+    (state.order, state.length) = (order, length);
+    (SearchAnswer::Unfinished, allowance)
+}
+
+/// Rule 2 applies to this pair of kinds.
+const A: u8 = 1;
+/// Rule 3 applies.
+const L: u8 = 2;
+/// Rule 4 applies.
+const F: u8 = 4;
+
+/// Document 01's table of the program-order rules, earlier kind by row.
+const PROGRAM_ORDER: [[u8; 5]; 5] = [
+    [0, 0, 0, L, F],
+    [A, A, A, A | L, A | F],
+    [0, 0, 0, L, F],
+    [0, 0, 0, L, F],
+    [F, F, F, F, F],
+];
+
+/// What standing in the prefix does.
+#[derive(Clone, Copy, PartialEq, Eq)]
+enum Effect {
+    Nothing,
+    Read,
+    Local,
+    Remote,
+}
+
+/// All that `fits`, `push` and `pop` use of one operation, but its predecessors.
+#[derive(Clone, Copy)]
+struct Step {
+    effect: Effect,
+    /// For RV of a st.rel to WB: all RV of that store.
+    release: u128,
+    /// The processor whose view it reads or changes, and the line there.
+    processor: usize,
+    line: usize,
+    /// The bits of the access within the line, and the data there.
+    mask: u64,
+    data: u64,
+    /// For LV and RV: the store's number.
+    store: usize,
+    /// For RV: it is RV_own, the store's first.
+    own: bool,
+    /// For RV: the other stores that coherence orders with this one.
+    coherent: u64,
+    /// For R: its processor's overlapping stores, and those of them on UC.
+    bypass: u64,
+    no_bypass: u64,
+}
+
+/// What is fixed by the execution.
+struct Tables {
+    count: usize,
+    /// By operation: those that stand before it in every consistent prefix.
+    predecessors: [u128; MAX_OPERATIONS],
+    steps: Vec<Step>,
+    /// By store number: its bits within its line.
+    masks: [u64; MAX_INSTRUCTIONS],
+    /// By line: the initial bytes.
+    initial: [u64; MAX_LINES],
+}
+
+impl Tables {
+    fn of(e: &Execution) -> Tables {
+        let mut masks = [0; MAX_INSTRUCTIONS];
+        for store in e.stores() {
+            masks[store] = line_mask(&e.instructions[store]);
+        }
+        let mut initial = [0; MAX_LINES];
+        for (word, line) in initial.iter_mut().zip(&e.lines) {
+            *word = u64::from_le_bytes(line.initial);
+        }
+        let count = e.operation_count();
+        Tables {
+            count,
+            predecessors: predecessors(e),
+            steps: (0..count).map(|at| step_of(e, at)).collect(),
+            masks,
+            initial,
+        }
+    }
+}
+
+/// The bits that an access covers within its line; none for an mf.
+fn line_mask(instruction: &Instruction) -> u64 {
+    let ones = match instruction.size {
+        0 => 0,
+        size => u64::MAX >> (64 - 8 * u32::from(size)),
+    };
+    ones << line_shift(instruction)
+}
+
+fn line_shift(instruction: &Instruction) -> u32 {
+    8 * (u32::from(instruction.address) % LINE_SIZE as u32)
+}
+
+/// Gathers one operation's step.
+fn step_of(e: &Execution, operation: usize) -> Step {
+    let number = e.operations[operation].instruction;
+    let instruction = &e.instructions[number];
+    let own = instruction.processor;
+    let mut step = Step {
+        effect: Effect::Nothing,
+        release: 0,
+        processor: own,
+        line: instruction.line(),
+        mask: line_mask(instruction),
+        data: u64::from_le_bytes(instruction.data) << line_shift(instruction),
+        store: number,
+        own: false,
+        coherent: 0,
+        bypass: 0,
+        no_bypass: 0,
+    };
+    match e.operations[operation].role {
+        Role::Fence => {}
+        Role::Local => step.effect = Effect::Local,
+        Role::Read => {
+            step.effect = Effect::Read;
+            step.bypass = overlapping_stores(e, number, |w| e.same_program(w, number));
+            if e.attribute(number) == Attribute::Uncacheable {
+                step.no_bypass = step.bypass;
+            }
+        }
+        Role::Remote(q) => {
+            step.effect = Effect::Remote;
+            step.processor = q;
+            step.own = q == own;
+            step.release = atomic_release(e, number);
+            if e.attribute(number) != Attribute::WriteCoalescing {
+                step.coherent = overlapping_stores(e, number, |w| w != number);
+            }
+        }
+    }
+    step
+}
+
+fn overlapping_stores(e: &Execution, access: usize, wanted: impl Fn(usize) -> bool) -> u64 {
+    e.stores()
+        .filter(|&w| wanted(w) && e.overlap(access, w))
+        .fold(0, |set, w| set | 1 << w)
+}
+
+/// All RV of a st.rel to WB, which stand together; none for other stores.
+fn atomic_release(e: &Execution, store: usize) -> u128 {
+    let atomic = e.instructions[store].kind == Kind::StoreRelease
+        && e.attribute(store) == Attribute::WriteBack;
+    if !atomic {
+        return 0;
+    }
+    (0..e.processors).fold(0, |set, q| set | 1 << e.remote(store, q))
+}
+
+/// By operation: what the rules put before it in every consistent prefix. These are the links of
+/// rules 1 to 8 and 13, and rule 9, whose 'if' always holds where rules 1 and 7 do: RV_own(W2)
+/// stands after LV(W2), and that after LV(W1) for W1 earlier in the program.
+fn predecessors(e: &Execution) -> [u128; MAX_OPERATIONS] {
+    let mut before = [0; MAX_OPERATIONS];
+    let mut require = |a: usize, b: usize| before[b] |= 1 << a;
+    for store in e.stores() {
+        let own = e.remote_own(store);
+        require(e.read_or_local(store), own);
+        for remote in e.operations_of(store).skip(1).filter(|&rv| rv != own) {
+            require(own, remote);
+        }
+    }
+    for later in 0..e.instructions.len() {
+        for earlier in (0..later).filter(|&earlier| e.same_program(earlier, later)) {
+            require_program_order(e, earlier, later, &mut require);
+            require_access_order(e, earlier, later, &mut require);
+        }
+    }
+    before
+}
+
+/// Rules 2 to 4, by the table.
+fn require_program_order(
+    e: &Execution,
+    earlier: usize,
+    later: usize,
+    require: &mut impl FnMut(usize, usize),
+) {
+    let kinds = [earlier, later].map(|i| e.instructions[i].kind);
+    let marks = PROGRAM_ORDER[kinds[0] as usize][kinds[1] as usize];
+    let like_with_like = kinds[0].is_store() && marks & F == 0;
+    if marks == 0 {
+        return;
+    }
+    for (at, a) in e.operations_of(earlier).enumerate() {
+        for (other, b) in e.operations_of(later).enumerate() {
+            if !like_with_like || at == other {
+                require(a, b);
+            }
+        }
+    }
+}
+
+/// Rules 5 to 9 and 13, on 'R or LV' of two accesses.
+fn require_access_order(
+    e: &Execution,
+    earlier: usize,
+    later: usize,
+    require: &mut impl FnMut(usize, usize),
+) {
+    let kinds = [earlier, later].map(|i| e.instructions[i].kind);
+    if kinds.contains(&Kind::Fence) {
+        return;
+    }
+    let stores = kinds.map(Kind::is_store);
+    let data = stores != [false, false] && e.overlap(earlier, later);
+    let flow = e.pairs.contains(&(earlier as u8, later as u8));
+    let domain = [earlier, later].map(|i| e.attribute(i)) == [Attribute::Uncacheable; 2];
+    if data || flow || domain {
+        require(e.read_or_local(earlier), e.read_or_local(later));
+    }
+    let coherent = e.attribute(later) != Attribute::WriteCoalescing;
+    if data && coherent && stores == [true, true] {
+        require(e.remote_own(earlier), e.remote_own(later));
+    }
+}
+
+/// A consistent prefix and what follows from it.
+struct State<'a> {
+    tables: &'a Tables,
+    order: [u8; MAX_OPERATIONS],
+    length: usize,
+    /// The operations that stand.
+    standing: u128,
+    /// The RV still missing of a st.rel to WB that has begun: one of them comes next (rule 12).
+    open: u128,
+    /// Stores whose LV stands, whose RV_own stands, and by processor whose RV_p stands.
+    local: u64,
+    started: u64,
+    remote: [u64; MAX_PROCESSORS],
+    /// By started store: the stores that coherence puts before it (rule 10).
+    earlier: [u64; MAX_INSTRUCTIONS],
+    /// By processor and line: the latest byte of its own LV, and of the RV at it, else initial.
+    written: [[u64; MAX_LINES]; MAX_PROCESSORS],
+    visible: [[u64; MAX_LINES]; MAX_PROCESSORS],
+    /// By place: the word of `written` or `visible` that the operation there replaced.
+    replaced: [u64; MAX_OPERATIONS],
+}
+
+impl<'a> State<'a> {
+    fn empty(tables: &'a Tables) -> State<'a> {
+        State {
+            tables,
+            order: [0; MAX_OPERATIONS],
+            length: 0,
+            standing: 0,
+            open: 0,
+            local: 0,
+            started: 0,
+            remote: [0; MAX_PROCESSORS],
+            earlier: [0; MAX_INSTRUCTIONS],
+            written: [[0; MAX_LINES]; MAX_PROCESSORS],
+            visible: [tables.initial; MAX_PROCESSORS],
+            replaced: [0; MAX_OPERATIONS],
+        }
+    }
+
+    fn is_full(&self) -> bool {
+        self.length == self.tables.count
+    }
+
+    /// Goes to the next consistent prefix in lexicographic order; false, and empty, if there is none.
+    fn advance(&mut self) -> bool {
+        let mut from = 0;
+        loop {
+            if let Some(candidate) = self.first_fit(from) {
+                self.push(candidate);
+                return true;
+            }
+            match self.pop() {
+                Some(last) => from = last + 1,
+                None => return false,
+            }
+        }
+    }
+
+    /// The first operation from `from` on that keeps the prefix consistent.
+    fn first_fit(&self, from: usize) -> Option<usize> {
+        let mut candidates = u128::MAX.checked_shl(from as u32).unwrap_or(0) & !self.standing;
+        if self.open != 0 {
+            candidates &= self.open;
+        }
+        while candidates != 0 {
+            let candidate = candidates.trailing_zeros() as usize;
+            if candidate >= self.tables.count {
+                return None;
+            }
+            if self.fits(candidate) {
+                return Some(candidate);
+            }
+            candidates &= candidates - 1;
+        }
+        None
+    }
+
+    /// Whether the prefix stays consistent with this operation, which does not stand, at its end.
+    fn fits(&self, candidate: usize) -> bool {
+        if self.tables.predecessors[candidate] & !self.standing != 0 {
+            return false;
+        }
+        if self.open != 0 && self.open >> candidate & 1 == 0 {
+            return false;
+        }
+        let step = &self.tables.steps[candidate];
+        match step.effect {
+            Effect::Nothing | Effect::Local => true,
+            Effect::Read => self.read_fits(step),
+            Effect::Remote => self.coherence_before(step) & !self.remote[step.processor] == 0,
+        }
+    }
+
+    /// The stores whose RV_p stands before this RV_p by rule 10: those that started first. The
+    /// first RV of a store anywhere is RV_own (rule 1), and it settles the order for every p.
+    fn coherence_before(&self, step: &Step) -> u64 {
+        if self.started >> step.store & 1 == 1 {
+            self.earlier[step.store]
+        } else {
+            step.coherent & self.started
+        }
+    }
+
+    /// Rules 11 and 14 for an R that comes next.
+    fn read_fits(&self, step: &Step) -> bool {
+        let pending = self.local & !self.started;
+        if step.no_bypass & pending != 0 {
+            return false;
+        }
+        let mut own = 0;
+        let mut bypassing = step.bypass & pending;
+        while bypassing != 0 {
+            own |= self.tables.masks[bypassing.trailing_zeros() as usize];
+            bypassing &= bypassing - 1;
+        }
+        let written = self.written[step.processor][step.line];
+        let visible = self.visible[step.processor][step.line];
+        let seen = (written & own) | (visible & !own);
+        (seen ^ step.data) & step.mask == 0
+    }
+
+    /// Puts an operation that fits at the end.
+    fn push(&mut self, operation: usize) {
+        let step = &self.tables.steps[operation];
+        self.standing |= 1 << operation;
+        self.open = step.release & !self.standing;
+        match step.effect {
+            Effect::Nothing | Effect::Read => {}
+            Effect::Local => {
+                let word = &mut self.written[step.processor][step.line];
+                self.replaced[self.length] = *word;
+                *word = (*word & !step.mask) | step.data;
+                self.local |= 1 << step.store;
+            }
+            Effect::Remote => {
+                let word = &mut self.visible[step.processor][step.line];
+                self.replaced[self.length] = *word;
+                *word = (*word & !step.mask) | step.data;
+                self.remote[step.processor] |= 1 << step.store;
+                if step.own {
+                    self.earlier[step.store] = step.coherent & self.started;
+                    self.started |= 1 << step.store;
+                }
+            }
+        }
+        self.order[self.length] = operation as u8;
+        self.length += 1;
+    }
+
+    /// Takes the last operation off, if there is one.
+    fn pop(&mut self) -> Option<usize> {
+        self.length = self.length.checked_sub(1)?;
+        let operation = usize::from(self.order[self.length]);
+        let step = &self.tables.steps[operation];
+        self.standing &= !(1 << operation);
+        let begun = step.release & self.standing != 0;
+        self.open = if begun {
+            step.release & !self.standing
+        } else {
+            0
+        };
+        match step.effect {
+            Effect::Nothing | Effect::Read => {}
+            Effect::Local => {
+                self.written[step.processor][step.line] = self.replaced[self.length];
+                self.local &= !(1 << step.store);
+            }
+            Effect::Remote => {
+                self.visible[step.processor][step.line] = self.replaced[self.length];
+                self.remote[step.processor] &= !(1 << step.store);
+                if step.own {
+                    self.started &= !(1 << step.store);
+                }
+            }
+        }
+        Some(operation)
+    }
+}
+
+#[cfg(test)]
+mod tests {
+    use super::*;
+    use crate::generate::{execution, Shape};
+    use crate::random::Random;
+    use crate::reference::rules::links;
+    use std::collections::BTreeSet;
+
+    /// The predecessors are the rules' links and rule 9's pairs, though written another way.
+    #[test]
+    fn predecessors_are_links_and_own_coherence() {
+        let mut random = Random::new(1);
+        for _ in 0..300 {
+            let e = execution(&mut random, &Shape::LARGE);
+            let mut expected: BTreeSet<_> = links(&e).into_iter().collect();
+            for w2 in e.stores() {
+                for w1 in e.stores().filter(|&w1| w1 < w2 && e.same_program(w1, w2)) {
+                    if e.overlap(w1, w2) && e.attribute(w1) != Attribute::WriteCoalescing {
+                        expected.insert((e.remote_own(w1), e.remote_own(w2)));
+                    }
+                }
+            }
+            let before = predecessors(&e);
+            let linked = |&(a, b): &(usize, usize)| before[b] >> a & 1 == 1;
+            let count = e.operation_count();
+            let all = (0..count).flat_map(|a| (0..count).map(move |b| (a, b)));
+            assert_eq!(all.filter(linked).collect::<BTreeSet<_>>(), expected);
+        }
+    }
+}

@@ -1,0 +1,418 @@
+//! The record: its types, the reader with questions 1 to 15, the writer, and the operation numbers.
+
+use std::ops::Range;
+
+/// Most processors of a record (question 2).
+pub const MAX_PROCESSORS: usize = 8;
+/// Most lines of a record (question 3).
+pub const MAX_LINES: usize = 8;
+/// Most instructions over all programs (question 5).
+pub const MAX_INSTRUCTIONS: usize = 40;
+/// Most operations (question 11).
+pub const MAX_OPERATIONS: usize = 128;
+/// Most dependence pairs (question 12).
+pub const MAX_PAIRS: usize = 40;
+/// Bytes of memory that one line holds.
+pub const LINE_SIZE: usize = 8;
+/// Record bytes of a line: attribute and initial bytes.
+pub const LINE_ITEM: usize = 9;
+/// Record bytes of an instruction: kind, address, size, data.
+pub const INSTRUCTION_ITEM: usize = 11;
+/// Record bytes of a dependence pair.
+pub const PAIR_ITEM: usize = 2;
+
+/// What an instruction does; the number is the record's kind byte.
+#[derive(Clone, Copy, PartialEq, Eq, Debug)]
+pub enum Kind {
+    Load = 0,
+    LoadAcquire = 1,
+    Store = 2,
+    StoreRelease = 3,
+    Fence = 4,
+}
+
+impl Kind {
+    /// All five kinds, by their number.
+    pub const ALL: [Kind; 5] = [
+        Kind::Load,
+        Kind::LoadAcquire,
+        Kind::Store,
+        Kind::StoreRelease,
+        Kind::Fence,
+    ];
+
+    /// The kind of a record's kind byte (question 6).
+    pub fn of(byte: u8) -> Option<Kind> {
+        Kind::ALL.get(usize::from(byte)).copied()
+    }
+
+    /// ld or ld.acq.
+    pub fn is_load(self) -> bool {
+        matches!(self, Kind::Load | Kind::LoadAcquire)
+    }
+
+    /// st or st.rel.
+    pub fn is_store(self) -> bool {
+        matches!(self, Kind::Store | Kind::StoreRelease)
+    }
+}
+
+/// A line's memory attribute; the number is the record's attribute byte.
+#[derive(Clone, Copy, PartialEq, Eq, Debug)]
+pub enum Attribute {
+    WriteBack = 0,
+    Uncacheable = 1,
+    WriteCoalescing = 2,
+}
+
+impl Attribute {
+    /// All three attributes, by their number.
+    pub const ALL: [Attribute; 3] = [
+        Attribute::WriteBack,
+        Attribute::Uncacheable,
+        Attribute::WriteCoalescing,
+    ];
+
+    /// The attribute of a record's attribute byte (question 4).
+    pub fn of(byte: u8) -> Option<Attribute> {
+        Attribute::ALL.get(usize::from(byte)).copied()
+    }
+}
+
+/// Line k holds addresses 8k to 8k+7.
+#[derive(Clone, Copy, PartialEq, Eq, Debug)]
+pub struct Line {
+    pub attribute: Attribute,
+    pub initial: [u8; LINE_SIZE],
+}
+
+/// One instruction and the processor whose program it stands in.
+#[derive(Clone, Copy, PartialEq, Eq, Debug)]
+pub struct Instruction {
+    pub processor: usize,
+    pub kind: Kind,
+    pub address: u8,
+    pub size: u8,
+    /// What a load saw or a store wrote, lowest address first.
+    pub data: [u8; 8],
+}
+
+impl Instruction {
+    /// Whether the access touches this byte; an mf touches none.
+    pub fn covers(&self, address: usize) -> bool {
+        let first = usize::from(self.address);
+        (first..first + usize::from(self.size)).contains(&address)
+    }
+
+    /// The data byte for an address that the access covers.
+    pub fn byte_at(&self, address: usize) -> u8 {
+        self.data[address - usize::from(self.address)]
+    }
+
+    /// The addresses that the access covers.
+    pub fn addresses(&self) -> Range<usize> {
+        let first = usize::from(self.address);
+        first..first + usize::from(self.size)
+    }
+
+    /// The line that the access lies on.
+    pub fn line(&self) -> usize {
+        usize::from(self.address) / LINE_SIZE
+    }
+}
+
+/// What an operation is to its instruction.
+#[derive(Clone, Copy, PartialEq, Eq, Debug)]
+pub enum Role {
+    /// R of a load.
+    Read,
+    /// LV of a store.
+    Local,
+    /// RV_q of a store.
+    Remote(usize),
+    /// F of an mf.
+    Fence,
+}
+
+/// One operation: its instruction's number, and its role there.
+#[derive(Clone, Copy, PartialEq, Eq, Debug)]
+pub struct Operation {
+    pub instruction: usize,
+    pub role: Role,
+}
+
+/// A record's content, with its operations numbered.
+#[derive(Clone, PartialEq, Eq, Debug)]
+pub struct Execution {
+    pub processors: usize,
+    pub lines: Vec<Line>,
+    /// By instruction number: the programs one after another.
+    pub instructions: Vec<Instruction>,
+    /// Dependences: earlier and later instruction number.
+    pub pairs: Vec<(u8, u8)>,
+    /// By operation number.
+    pub operations: Vec<Operation>,
+    /// By instruction number: its first operation's number.
+    first: Vec<usize>,
+}
+
+impl Execution {
+    /// Numbers the operations. Instructions stand in the order of their processors.
+    pub fn new(
+        processors: usize,
+        lines: Vec<Line>,
+        instructions: Vec<Instruction>,
+        pairs: Vec<(u8, u8)>,
+    ) -> Execution {
+        assert!(instructions.is_sorted_by_key(|i| i.processor));
+        let mut operations = Vec::new();
+        let mut first = Vec::new();
+        for (number, instruction) in instructions.iter().enumerate() {
+            first.push(operations.len());
+            for role in roles(instruction.kind, processors) {
+                operations.push(Operation {
+                    instruction: number,
+                    role,
+                });
+            }
+        }
+        Execution {
+            processors,
+            lines,
+            instructions,
+            pairs,
+            operations,
+            first,
+        }
+    }
+
+    /// N, the number of operations.
+    pub fn operation_count(&self) -> usize {
+        self.operations.len()
+    }
+
+    /// The numbers of an instruction's operations.
+    pub fn operations_of(&self, instruction: usize) -> Range<usize> {
+        let end = self.first.get(instruction + 1).copied();
+        self.first[instruction]..end.unwrap_or(self.operations.len())
+    }
+
+    /// 'R or LV' of an access: R of a load, LV of a store. Either is its first operation.
+    pub fn read_or_local(&self, access: usize) -> usize {
+        self.first[access]
+    }
+
+    /// RV_q of a store.
+    pub fn remote(&self, store: usize, q: usize) -> usize {
+        self.first[store] + 1 + q
+    }
+
+    /// RV_own of a store.
+    pub fn remote_own(&self, store: usize) -> usize {
+        self.remote(store, self.instructions[store].processor)
+    }
+
+    /// The numbers of all loads.
+    pub fn loads(&self) -> impl Iterator<Item = usize> + '_ {
+        (0..self.instructions.len()).filter(|&i| self.instructions[i].kind.is_load())
+    }
+
+    /// The numbers of all stores.
+    pub fn stores(&self) -> impl Iterator<Item = usize> + '_ {
+        (0..self.instructions.len()).filter(|&i| self.instructions[i].kind.is_store())
+    }
+
+    /// Whether the two instructions stand in one program.
+    pub fn same_program(&self, a: usize, b: usize) -> bool {
+        self.instructions[a].processor == self.instructions[b].processor
+    }
+
+    /// Whether the two accesses share a byte; an mf shares none.
+    pub fn overlap(&self, a: usize, b: usize) -> bool {
+        let other = &self.instructions[b];
+        self.instructions[a]
+            .addresses()
+            .any(|address| other.covers(address))
+    }
+
+    /// The attribute of the line that an access lies on.
+    pub fn attribute(&self, access: usize) -> Attribute {
+        self.lines[self.instructions[access].line()].attribute
+    }
+
+    /// The initial byte at an address.
+    pub fn initial(&self, address: usize) -> u8 {
+        self.lines[address / LINE_SIZE].initial[address % LINE_SIZE]
+    }
+
+    /// Writes the record.
+    pub fn to_bytes(&self) -> Vec<u8> {
+        let mut bytes = vec![self.processors as u8, self.lines.len() as u8];
+        for line in &self.lines {
+            bytes.push(line.attribute as u8);
+            bytes.extend(line.initial);
+        }
+        for processor in 0..self.processors {
+            let program = self.instructions.iter();
+            let program: Vec<_> = program.filter(|i| i.processor == processor).collect();
+            bytes.push(program.len() as u8);
+            for instruction in program {
+                bytes.extend([
+                    instruction.kind as u8,
+                    instruction.address,
+                    instruction.size,
+                ]);
+                bytes.extend(instruction.data);
+            }
+        }
+        bytes.push(self.pairs.len() as u8);
+        bytes.extend(
+            self.pairs
+                .iter()
+                .flat_map(|&(first, second)| [first, second]),
+        );
+        bytes
+    }
+}
+
+/// The operations that an instruction of this kind gives, in their order.
+fn roles(kind: Kind, processors: usize) -> Vec<Role> {
+    match kind {
+        Kind::Load | Kind::LoadAcquire => vec![Role::Read],
+        Kind::Store | Kind::StoreRelease => {
+            let remote = (0..processors).map(Role::Remote);
+            std::iter::once(Role::Local).chain(remote).collect()
+        }
+        Kind::Fence => vec![Role::Fence],
+    }
+}
+
+/// Reads a record, or gives the number of the first question answered 'no'.
+pub fn read(bytes: &[u8]) -> Result<Execution, u8> {
+    let mut walk = Walk { rest: bytes };
+    let processors = read_processors(&mut walk)?;
+    let lines = read_lines(&mut walk)?;
+    let mut instructions = Vec::new();
+    for processor in 0..processors {
+        read_program(&mut walk, processor, lines.len(), &mut instructions)?;
+    }
+    ask(10, !instructions.is_empty())?;
+    let mut execution = Execution::new(processors, lines, instructions, Vec::new());
+    ask(11, execution.operation_count() <= MAX_OPERATIONS)?;
+    read_pairs(&mut walk, &mut execution)?;
+    ask(15, walk.rest.is_empty())?;
+    Ok(execution)
+}
+
+/// A question: its number comes back as the refusal when the answer is 'no'.
+pub(crate) fn ask(question: u8, yes: bool) -> Result<(), u8> {
+    if yes {
+        Ok(())
+    } else {
+        Err(question)
+    }
+}
+
+/// The walk over the record: the bytes not yet looked at.
+struct Walk<'a> {
+    rest: &'a [u8],
+}
+
+impl<'a> Walk<'a> {
+    /// The next item of this length, after question 1.
+    fn item(&mut self, length: usize) -> Result<&'a [u8], u8> {
+        ask(1, length <= self.rest.len())?;
+        let (item, rest) = self.rest.split_at(length);
+        self.rest = rest;
+        Ok(item)
+    }
+
+    /// The next count, an item of one byte.
+    fn count(&mut self) -> Result<usize, u8> {
+        Ok(usize::from(self.item(1)?[0]))
+    }
+}
+
+fn read_processors(walk: &mut Walk) -> Result<usize, u8> {
+    let processors = walk.count()?;
+    ask(2, (1..=MAX_PROCESSORS).contains(&processors))?;
+    Ok(processors)
+}
+
+fn read_lines(walk: &mut Walk) -> Result<Vec<Line>, u8> {
+    let count = walk.count()?;
+    ask(3, (1..=MAX_LINES).contains(&count))?;
+    let mut lines = Vec::new();
+    for _ in 0..count {
+        let item = walk.item(LINE_ITEM)?;
+        let attribute = Attribute::of(item[0]).ok_or(4)?;
+        let initial = item[1..].try_into().expect("eight initial bytes");
+        lines.push(Line { attribute, initial });
+    }
+    Ok(lines)
+}
+
+/// Reads one processor's program, from its own count on, behind the instructions before it.
+fn read_program(
+    walk: &mut Walk,
+    processor: usize,
+    lines: usize,
+    instructions: &mut Vec<Instruction>,
+) -> Result<(), u8> {
+    let count = walk.count()?;
+    ask(5, instructions.len() + count <= MAX_INSTRUCTIONS)?;
+    for _ in 0..count {
+        let item = walk.item(INSTRUCTION_ITEM)?;
+        instructions.push(read_instruction(item, processor, lines)?);
+    }
+    Ok(())
+}
+
+/// Questions 6 to 9 of one instruction.
+fn read_instruction(item: &[u8], processor: usize, lines: usize) -> Result<Instruction, u8> {
+    let kind = Kind::of(item[0]).ok_or(6)?;
+    let (address, size) = (item[1], item[2]);
+    let data: [u8; 8] = item[3..].try_into().expect("eight data bytes");
+    if kind == Kind::Fence {
+        ask(7, size == 0)?;
+        ask(8, address == 0)?;
+    } else {
+        ask(7, [1, 2, 4, 8].contains(&size))?;
+        let end = usize::from(address) + usize::from(size);
+        ask(8, address.is_multiple_of(size) && end <= lines * LINE_SIZE)?;
+    }
+    ask(9, data[usize::from(size)..].iter().all(|&byte| byte == 0))?;
+    Ok(Instruction {
+        processor,
+        kind,
+        address,
+        size,
+        data,
+    })
+}
+
+fn read_pairs(walk: &mut Walk, execution: &mut Execution) -> Result<(), u8> {
+    let count = walk.count()?;
+    ask(12, count <= MAX_PAIRS)?;
+    for _ in 0..count {
+        let item = walk.item(PAIR_ITEM)?;
+        let pair = (item[0], item[1]);
+        ask(13, is_dependence(execution, pair))?;
+        let above = execution.pairs.last().is_none_or(|&last| last < pair);
+        ask(14, above)?;
+        execution.pairs.push(pair);
+    }
+    Ok(())
+}
+
+/// Question 13: first below second, both in one program, neither an mf, not both stores.
+pub(crate) fn is_dependence(execution: &Execution, pair: (u8, u8)) -> bool {
+    let (first, second) = (usize::from(pair.0), usize::from(pair.1));
+    if first >= second || second >= execution.instructions.len() {
+        return false;
+    }
+    let kinds = [first, second].map(|number| execution.instructions[number].kind);
+    execution.same_program(first, second)
+        && !kinds.contains(&Kind::Fence)
+        && !kinds.iter().all(|kind| kind.is_store())
+}

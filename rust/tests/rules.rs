@@ -1,0 +1,170 @@
+//! The rules 1 to 14 by hand: for each an order and a prefix that break it first.
+
+use oglindesh::reference::notation::{self, acq, ld, mf, programs, rel, st, Draft, X, Y};
+use oglindesh::reference::record::{Attribute, Kind};
+use oglindesh::reference::rules::{judge, lowest_broken, JudgeAnswer};
+
+fn judged(draft: &Draft, order: &[u8]) -> JudgeAnswer {
+    judge(&draft.clone().build().to_bytes(), order)
+}
+
+fn broken_by(draft: &Draft, prefix: &[u8]) -> Option<u8> {
+    lowest_broken(&draft.clone().build(), prefix)
+}
+
+#[test]
+fn write_order() {
+    let two = programs(&[&[st(X, 1)], &[]]);
+    assert_eq!(judged(&two, &[0, 1, 2]), JudgeAnswer::Legal);
+    assert_eq!(judged(&two, &[1, 0, 2]), JudgeAnswer::Breaks(1));
+    assert_eq!(judged(&two, &[0, 2, 1]), JudgeAnswer::Breaks(1));
+    assert_eq!(broken_by(&two, &[0, 2]), Some(1));
+    // 'Own' is the storing processor, not the first.
+    let second = programs(&[&[], &[st(X, 1)]]);
+    assert_eq!(judged(&second, &[0, 2, 1]), JudgeAnswer::Legal);
+    assert_eq!(judged(&second, &[0, 1, 2]), JudgeAnswer::Breaks(1));
+}
+
+#[test]
+fn program_order() {
+    assert_eq!(
+        judged(&programs(&[&[acq(X, 0), ld(Y, 0)]]), &[1, 0]),
+        JudgeAnswer::Breaks(2)
+    );
+    let load_release = programs(&[&[ld(X, 0), rel(Y, 1)]]);
+    assert_eq!(judged(&load_release, &[1, 0, 2]), JudgeAnswer::Breaks(3));
+    let store_release = programs(&[&[st(X, 1), rel(Y, 1)]]);
+    assert_eq!(judged(&store_release, &[0, 2, 1, 3]), JudgeAnswer::Legal);
+    assert_eq!(
+        judged(&store_release, &[2, 0, 1, 3]),
+        JudgeAnswer::Breaks(3)
+    );
+    assert_eq!(
+        judged(&store_release, &[0, 2, 3, 1]),
+        JudgeAnswer::Breaks(3)
+    );
+    let release_later = programs(&[&[rel(X, 1), st(Y, 1), ld(Y, 1)]]);
+    assert_eq!(judged(&release_later, &[2, 3, 4, 0, 1]), JudgeAnswer::Legal);
+    for pair in [[mf(), mf()], [mf(), ld(X, 0)], [ld(X, 0), mf()]] {
+        assert_eq!(judged(&programs(&[&pair]), &[1, 0]), JudgeAnswer::Breaks(4));
+    }
+    // The fence waits for every RV.
+    let fenced = programs(&[&[st(X, 1), mf()], &[]]);
+    assert_eq!(judged(&fenced, &[0, 1, 3, 2]), JudgeAnswer::Breaks(4));
+}
+
+#[test]
+fn dependences() {
+    let raw = programs(&[&[st(X, 1), ld(X, 0)]]);
+    assert_eq!(judged(&raw, &[2, 0, 1]), JudgeAnswer::Breaks(5));
+    let war = programs(&[&[ld(X, 1), st(X, 1)]]);
+    assert_eq!(judged(&war, &[1, 2, 0]), JudgeAnswer::Breaks(6));
+    let waw = programs(&[&[st(X, 1), st(X, 2)]]);
+    assert_eq!(judged(&waw, &[2, 0, 1, 3]), JudgeAnswer::Breaks(7));
+    let apart = programs(&[&[st(X, 1), st(X + 1, 2)]]);
+    assert_eq!(judged(&apart, &[2, 3, 0, 1]), JudgeAnswer::Legal);
+    let wide = programs(&[&[notation::access(Kind::Store, X, &[1, 2]), st(X + 1, 2)]]);
+    assert_eq!(judged(&wide, &[2, 3, 0, 1]), JudgeAnswer::Breaks(7));
+    let flow = programs(&[&[ld(X, 0), ld(Y, 0)]]);
+    assert_eq!(judged(&flow, &[1, 0]), JudgeAnswer::Legal);
+    assert_eq!(judged(&flow.pair(0, 1), &[1, 0]), JudgeAnswer::Breaks(8));
+}
+
+#[test]
+fn coherence() {
+    let own = programs(&[&[st(X, 1), st(X, 2)], &[]]);
+    assert_eq!(judged(&own, &[0, 3, 1, 4, 2, 5]), JudgeAnswer::Legal);
+    assert_eq!(judged(&own, &[0, 3, 4, 1, 5, 2]), JudgeAnswer::Breaks(9));
+    assert_eq!(judged(&own, &[0, 3, 4, 1, 2, 5]), JudgeAnswer::Breaks(9));
+    assert_eq!(judged(&own, &[0, 3, 1, 4, 5, 2]), JudgeAnswer::Breaks(10));
+    for attribute in [Attribute::Uncacheable, Attribute::WriteCoalescing] {
+        let other = own.clone().all_lines(attribute);
+        let coherent = attribute == Attribute::Uncacheable;
+        let expected = |rule| match coherent {
+            true => JudgeAnswer::Breaks(rule),
+            false => JudgeAnswer::Legal,
+        };
+        assert_eq!(judged(&other, &[0, 3, 4, 1, 5, 2]), expected(9));
+        assert_eq!(judged(&other, &[0, 3, 1, 4, 5, 2]), expected(10));
+    }
+}
+
+/// Rule 10 is settled by the first RV of either store, before all of them stand.
+#[test]
+fn coherence_of_a_prefix() {
+    let two = programs(&[&[st(X, 1)], &[st(X, 2)]]);
+    assert_eq!(broken_by(&two, &[0, 1, 3]), None);
+    assert_eq!(broken_by(&two, &[0, 1, 3, 5]), Some(10));
+    assert_eq!(broken_by(&two, &[0, 1, 2, 3, 5]), None);
+    assert_eq!(broken_by(&two, &[0, 1, 3, 2, 5]), None);
+}
+
+#[test]
+fn read_value() {
+    let own = programs(&[&[st(X, 1), st(X, 2), ld(X, 1)]]);
+    assert_eq!(judged(&own, &[0, 1, 2, 3, 4]), JudgeAnswer::Breaks(11));
+    // Local through the second store though the first is visible; its byte is the latest LV.
+    let seen = programs(&[&[st(X, 1), st(X, 2), ld(X, 2)]]);
+    assert_eq!(judged(&seen, &[0, 1, 2, 4, 3]), JudgeAnswer::Legal);
+    assert_eq!(judged(&seen, &[0, 2, 4, 1, 3]), JudgeAnswer::Legal);
+    // A local read does not see a later RV of another processor.
+    let other = programs(&[&[st(X, 1), ld(X, 1)], &[st(X, 2)]]);
+    assert_eq!(judged(&other, &[0, 4, 6, 5, 3, 1, 2]), JudgeAnswer::Legal);
+    assert_eq!(judged(&other, &[0, 4, 6, 5, 1, 2, 3]), JudgeAnswer::Legal);
+    assert_eq!(
+        judged(&other, &[0, 1, 2, 4, 6, 5, 3]),
+        JudgeAnswer::Breaks(11)
+    );
+    let initial = programs(&[&[ld(X, 5)]]);
+    assert_eq!(broken_by(&initial, &[]), None);
+    assert_eq!(broken_by(&initial, &[0]), Some(11));
+    assert_eq!(broken_by(&initial.initial(X, 5), &[0]), None);
+}
+
+/// Each byte of a wide load has a source of its own.
+#[test]
+fn read_value_by_bytes() {
+    let wide = notation::access(Kind::Load, X, &[1, 2, 9, 9]);
+    let draft = programs(&[&[st(X, 1), wide], &[st(X + 1, 2)]])
+        .initial(X + 2, 9)
+        .initial(X + 3, 9);
+    // Byte 0 is local, byte 1 visible from the other processor, the rest initial.
+    assert_eq!(judged(&draft, &[0, 4, 6, 5, 3, 1, 2]), JudgeAnswer::Legal);
+    assert_eq!(
+        judged(&draft, &[0, 3, 4, 6, 5, 1, 2]),
+        JudgeAnswer::Breaks(11)
+    );
+}
+
+#[test]
+fn release_atomicity() {
+    let draft = programs(&[&[rel(X, 1)], &[ld(Y, 0)]]);
+    assert_eq!(judged(&draft, &[0, 3, 1, 2]), JudgeAnswer::Legal);
+    assert_eq!(judged(&draft, &[0, 1, 3, 2]), JudgeAnswer::Breaks(12));
+    assert_eq!(broken_by(&draft, &[0, 1]), None);
+    assert_eq!(broken_by(&draft, &[0, 1, 3]), Some(12));
+    let plain = programs(&[&[st(X, 1)], &[ld(Y, 0)]]);
+    assert_eq!(judged(&plain, &[0, 1, 3, 2]), JudgeAnswer::Legal);
+    for attribute in [Attribute::Uncacheable, Attribute::WriteCoalescing] {
+        let other = draft.clone().all_lines(attribute);
+        assert_eq!(judged(&other, &[0, 1, 3, 2]), JudgeAnswer::Legal);
+    }
+}
+
+#[test]
+fn uncacheable() {
+    let loads = programs(&[&[ld(X, 0), ld(Y, 0)]]);
+    let one = loads.clone().line(0, Attribute::Uncacheable);
+    let both = loads.all_lines(Attribute::Uncacheable);
+    assert_eq!(judged(&one, &[1, 0]), JudgeAnswer::Legal);
+    assert_eq!(judged(&both, &[1, 0]), JudgeAnswer::Breaks(13));
+    // An mf is no access, though its address is 0.
+    let fence = programs(&[&[ld(Y, 0), mf(), ld(Y, 0)]]).all_lines(Attribute::Uncacheable);
+    assert_eq!(judged(&fence, &[1, 0, 2]), JudgeAnswer::Breaks(4));
+    let bypass = programs(&[&[st(X, 1), ld(X, 1)]]).all_lines(Attribute::Uncacheable);
+    assert_eq!(judged(&bypass, &[0, 1, 2]), JudgeAnswer::Legal);
+    assert_eq!(judged(&bypass, &[0, 2, 1]), JudgeAnswer::Breaks(14));
+    assert_eq!(broken_by(&bypass, &[0, 2]), Some(14));
+    let disjoint = programs(&[&[st(X, 1), ld(X + 1, 0)]]).all_lines(Attribute::Uncacheable);
+    assert_eq!(judged(&disjoint, &[0, 2, 1]), JudgeAnswer::Legal);
+}
