@@ -1,10 +1,2 @@
 -- The laws of this crate, open to the crates above it.
-pub mod Counts
-pub mod Eights
-pub mod Items
-pub mod LineLaws
-pub mod EntryLaws
-pub mod InstructionLaws
-pub mod ProgramLaws
-pub mod PairLaws
 pub mod ReadingLaws

@@ -12,13 +12,13 @@ use Rattle.base.proofs.Lists.{length-count}
 use Rattle.model.specs.Execution as model
 use Rattle.model.specs.Questions.{Found, no-to, found, Reader, pure, next, _>>=_, _>>_, ask, question2, question15, readLines, readInstructions, readPairs, readRecord}
 use Rattle.model.specs.Calls.{Answer, says, refuses, answerOf, readAll}
-use Rattle.format.specs.declared.decoded.Lines.{Lines}
-use Rattle.format.specs.declared.decoded.Step.{Step}
-use Rattle.format.specs.declared.decoded.Step.the-variants.{Refused, Next}
-use Rattle.format.specs.Decoded.{lineAt, linesOf}
-use Rattle.format.specs.Steps.{foundBy, Walked}
+use Rattle.decoded.specs.declared.types.Lines.{Lines}
+use Rattle.decoded.specs.declared.types.Step.{Step}
+use Rattle.decoded.specs.declared.types.Step.the-variants.{Refused, Next}
+use Rattle.decoded.specs.Decoded.{lineAt, linesOf}
+use Rattle.decoded.specs.Steps.{foundBy, Walked}
 use Rattle.format.specs.Readings.{afterInstructions, afterLines}
-use Rattle.format.proofs.Items.{byte-short, byte-there}
+use Rattle.decoded.proofs.Items.{byte-short, byte-there}
 
 -- the number of lines that arrays hold
 pub lines-length : (x : Lines) → length (linesOf x) ≡ x .count

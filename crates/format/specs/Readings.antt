@@ -8,8 +8,8 @@ use Rattle.model.specs.Calls as calls
 use Rattle.format.specs.declared.reader.Answer.{Answer}
 use Rattle.format.specs.declared.reader.Answer.the-variants.{Accepted, Refused}
 use Rattle.format.specs.declared.reader.Reading.{Reading}
-use Rattle.format.specs.declared.decoded.Execution.{Execution}
-use Rattle.format.specs.Decoded.{executionOf}
+use Rattle.decoded.specs.declared.types.Execution.{Execution}
+use Rattle.decoded.specs.Decoded.{executionOf}
 
 -- the answer of the code as the model's
 abbrev pub answerMeant : Answer → Execution → calls.Answer model.Execution

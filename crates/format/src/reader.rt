@@ -2,19 +2,19 @@
 ghost use mathlib.Core.Path.{_≡_};
 ghost use Prim.Native.Nat.{ℕ, _≤_};
 ghost use Rattle.model.specs.Calls.{refuses, answerOf, readAll};
-ghost use Rattle.format.specs.Decoded.{linesOf, instructionsOf};
+ghost use Rattle.decoded.specs.Decoded.{linesOf, instructionsOf};
 ghost use Rattle.format.specs.Readings.{readingOf, afterLines, afterInstructions};
-use crate::decoded::Execution;
-use crate::decoded::Instructions;
-use crate::decoded::Lines;
-use crate::decoded::Step;
-use crate::decoded::wide;
-use crate::lines::no_lines;
-use crate::lines::read_lines;
-use crate::pairs::no_pairs;
-use crate::pairs::read_pairs;
-use crate::programs::no_instructions;
-use crate::programs::read_instructions;
+use decoded::types::Execution;
+use decoded::types::Instructions;
+use decoded::types::Lines;
+use decoded::types::Step;
+use decoded::types::wide;
+use sections::lines::no_lines;
+use sections::lines::read_lines;
+use sections::pairs::no_pairs;
+use sections::pairs::read_pairs;
+use sections::programs::no_instructions;
+use sections::programs::read_instructions;
 
 pub enum Answer {
     Accepted,

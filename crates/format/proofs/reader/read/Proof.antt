@@ -7,7 +7,7 @@ use lib.ListN.{length, getD, take, drop, length-drop}
 use lib.Seq.{drop-drop}
 use Rattle.base.proofs.Copies.{rest}
 use Rattle.model.specs.Calls.{answerOf}
-use Rattle.format.specs.Decoded.{linesOf}
+use Rattle.decoded.specs.Decoded.{linesOf}
 use Rattle.format.specs.Readings.{afterLines}
 use Rattle.format.proofs.ReadingLaws.{record-short, record-few, record-many, record-fails, record-read}
 use borrow.Author.Needs.{needs}
@@ -15,8 +15,8 @@ use Rattle.format.proofs.reader.read.Statement.{statement}
 use Rattle.format.proofs.reader.read.Tie as tie
 use Rattle.format.proofs.reader.read.Reads as reads
 use Rattle.format.proofs.reader.read.Lts as lts
-use Rattle.format.proofs.decoded.wide.Reads as wide-reads
-use Rattle.format.proofs.lines.read_lines.Reads as read-lines-reads
+use Rattle.decoded.proofs.types.wide.Reads as wide-reads
+use Rattle.sections.proofs.lines.read_lines.Reads as read-lines-reads
 use Rattle.format.proofs.reader.read_rest.Reads as read-rest-reads
 use Rattle.format.proofs.reader.refused.Reads as refused-reads
 
