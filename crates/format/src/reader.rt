@@ -5,6 +5,7 @@ ghost use Rattle.model.specs.Calls.{refuses, answerOf, readAll};
 ghost use Rattle.decoded.specs.Decoded.{linesOf, instructionsOf};
 ghost use Rattle.format.specs.Readings.{readingOf, afterLines, afterInstructions};
 use decoded::types::Execution;
+use decoded::types::MOST_PROCESSORS;
 use decoded::types::Instructions;
 use decoded::types::Lines;
 use decoded::types::Step;
@@ -94,7 +95,7 @@ pub fn read(bytes: &[u8]) -> Reading
     if p < 1 {
         return refused(2);
     }
-    if 8 < p {
+    if MOST_PROCESSORS < p {
         return refused(2);
     }
     let lines_read = read_lines(&bytes[1..]);

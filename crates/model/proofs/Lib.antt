@@ -5,3 +5,4 @@ pub mod Consistent
 pub mod Prefixes
 pub mod Legal
 pub mod ProgramOrder
+pub mod Accepted

@@ -7,6 +7,8 @@ ghost use Rattle.model.specs.Questions.{lineLength, lineOf, readLine, readLines
 ghost use Rattle.decoded.specs.Decoded.{linesOf};
 ghost use Rattle.decoded.specs.Steps.{Answered, Walked};
 use decoded::types::Asked;
+use decoded::types::MOST_LINES;
+use decoded::types::LINE_LENGTH;
 use decoded::types::Lines;
 use decoded::types::Step;
 use decoded::types::copy_eight;
@@ -31,7 +33,7 @@ fn line_question(part: &[u8], at: usize) -> Asked
     requires { ⌜ at ≤ length (now part) ⌝ }
     ensures { λ r. ⌜ Answered (readLine (drop at (now (part .entry)))) (now (part .entry)) at lineLength r (lineOf (take lineLength (drop at (now (part .entry))))) ⌝ }
 {
-    if part.len() - at < 9 {
+    if part.len() - at < LINE_LENGTH {
         return Asked::Fail(1);
     }
     if 2 < part[at] {
@@ -76,7 +78,7 @@ fn line_entries(part: &[u8], n: u8) -> LinesRead
             }
             Asked::Pass => {
                 lines = with_line(lines, part, at);
-                at = at + 9;
+                at = at + LINE_LENGTH;
             }
         }
     }
@@ -103,7 +105,7 @@ pub fn read_lines(part: &[u8]) -> LinesRead
             lines: no_lines(),
         };
     }
-    if 8 < n {
+    if MOST_LINES < n {
         return LinesRead {
             step: Step::Refused(3),
             lines: no_lines(),

@@ -10,6 +10,8 @@ use decoded::kind::is_fence;
 use decoded::kind::is_store;
 use decoded::kind::kind_of;
 use decoded::types::Asked;
+use decoded::types::MOST_PAIRS;
+use decoded::types::PAIR_LENGTH;
 use decoded::types::InstructionNo;
 use decoded::types::Instructions;
 use decoded::types::Pairs;
@@ -92,7 +94,7 @@ fn pair_question(part: &[u8], at: usize, is: Instructions, x: Pairs) -> Asked
     requires { ⌜ (at ≤ length (now part)) × (is .count ≤ 40) × (x .count ≤ 40) ⌝ }
     ensures { λ r. ⌜ Answered (readPair (instructionsOf is) (pairsOf x) (drop at (now (part .entry)))) (now (part .entry)) at pairLength r (pairOf (now (part .entry)) at) ⌝ }
 {
-    if part.len() - at < 2 {
+    if part.len() - at < PAIR_LENGTH {
         return Asked::Fail(1);
     }
     let m = wide(part[at]);
@@ -142,7 +144,7 @@ fn pair_entries(part: &[u8], n: u8, is: Instructions) -> PairsRead
             }
             Asked::Pass => {
                 pairs = with_pair(pairs, part, at);
-                at = at + 2;
+                at = at + PAIR_LENGTH;
             }
         }
     }
@@ -164,7 +166,7 @@ pub fn read_pairs(part: &[u8], is: Instructions) -> PairsRead
         };
     }
     let n = part[0];
-    if 40 < n {
+    if MOST_PAIRS < n {
         return PairsRead {
             step: Step::Refused(12),
             pairs: no_pairs(),

@@ -16,6 +16,9 @@ use decoded::kind::is_fence;
 use decoded::kind::kind_of;
 use decoded::kind::operation_count;
 use decoded::types::Asked;
+use decoded::types::MOST_OPERATIONS;
+use decoded::types::MOST_INSTRUCTIONS;
+use decoded::types::ENTRY_LENGTH;
 use decoded::types::Instructions;
 use decoded::types::Step;
 use decoded::types::copy_eight;
@@ -90,7 +93,7 @@ fn instruction_question(part: &[u8], at: usize, lines: usize) -> Asked
     requires { ⌜ (at ≤ length (now part)) × (lines ≤ 8) ⌝ }
     ensures { λ r. ⌜ ((processors p : ℕ) (done : List Instruction) → Answered (readInstruction processors lines p done (drop at (now (part .entry)))) (now (part .entry)) at entryLength r (instructionOf processors p done (take entryLength (drop at (now (part .entry)))))) ⌝ }
 {
-    if part.len() - at < 11 {
+    if part.len() - at < ENTRY_LENGTH {
         return Asked::Fail(1);
     }
     let k = part[at];
@@ -179,7 +182,7 @@ fn program_entries(
             }
             Asked::Pass => {
                 instructions = with_instruction(instructions, part, at, processors, p);
-                at = at + 11;
+                at = at + ENTRY_LENGTH;
             }
         }
     }
@@ -208,7 +211,7 @@ fn read_program(
         };
     }
     let n = part[0];
-    let room = 40 - is.count;
+    let room = MOST_INSTRUCTIONS - is.count;
     if room < wide(n) {
         return InstructionsRead {
             step: Step::Refused(5),
@@ -267,7 +270,7 @@ pub fn read_instructions(part: &[u8], lines: usize, processors: usize) -> Instru
                     instructions,
                 };
             }
-            if 128 < instructions.operations {
+            if MOST_OPERATIONS < instructions.operations {
                 return InstructionsRead {
                     step: Step::Refused(11),
                     instructions,

@@ -1,0 +1,204 @@
+-- What holds of an execution whose record is accepted: instructions and operations are numbered one after the other, and each instruction passed its questions.
+use Prim.Native.Nat.{ℕ, zero, suc, _+_, _*_, _≤_, _<_}
+use native.Mathlib.Omega.{arith}
+use mathlib.Core.Path.{_≡_, refl, sym, ap, _∙_, subst}
+use mathlib.Core.Bool.{Bool, true, false, cond, _&&_}
+use mathlib.Core.List.{List, [], _∷_, _++_}
+use lib.ListN.{length, getD, take, drop, length-append, length-drop}
+use lib.Seq.{length-take-le}
+use lib.Dec.{leb}
+use borrow.Author.Tests.{leb-true}
+use Rattle.base.specs.Lists.{all, member}
+use Rattle.base.proofs.Bools.{split, and-parts, clash}
+use Rattle.base.proofs.Lists.{member-in, all-member}
+use Rattle.model.specs.Execution.{Kind, kindOf, isFence, Instruction, Execution, roles, operationCount, operations, Line}
+use Rattle.model.specs.Questions.{Found, no-to, found, Reader, next, item, byte, ask, many, question2, question3, question5, question7, question8, question11, instructionOf, readLine, readLines, readInstruction, readProgram, readPrograms, readInstructions, readPair, readPairs, question15, readRecord}
+
+-- Steps of a walk that found something
+
+module _ {A B : Type 0} where
+  came : (m : Found A) (f : A → Reader B) (v : B) (r : List ℕ) → next m f ≡ found v r
+      → (a : A) × (bytes : List ℕ) × (m ≡ found a bytes) × (f a bytes ≡ found v r)
+  unfolding next
+  came (no-to q) f v r h = let z : _≡_ {A = ℕ} 0 1 = cc in absurd (omega arith)
+  came (found a bytes) f v r h = (a, bytes, refl, h)
+
+  step : {C : Type 0} (m : Found A) (f : A → Reader B) (v : B) (r : List ℕ) → next m f ≡ found v r
+      → ((a : A) (bytes : List ℕ) → m ≡ found a bytes → f a bytes ≡ found v r → C) → C
+  step m f v r h k = let (a, bytes, e, g) = came m f v r h in k a bytes e g
+
+asked : (q : ℕ) (b : Bool) (bytes : List ℕ) (u : Unit {0}) (r : List ℕ) → ask q b bytes ≡ found u r → b ≡ true
+unfolding ask
+asked q true bytes u r h = refl
+asked q false bytes u r h = let z : _≡_ {A = ℕ} 0 1 = cc in absurd (omega arith)
+
+item-length : (n : ℕ) (bytes x r : List ℕ) → item n bytes ≡ found x r → length x ≡ n
+unfolding item
+item-length n bytes x r h = go (leb n (length bytes)) refl h
+  where
+    go : (b : Bool) → leb n (length bytes) ≡ b → cond b (found (take n bytes) (drop n bytes)) (no-to 1) ≡ found x r → length x ≡ n
+    go true e k = let z : take n bytes ≡ x = cc in ap length (sym z) ∙ length-take-le n bytes (leb-true n (length bytes) e)
+    go false e k = let z : _≡_ {A = ℕ} 0 1 = cc in absurd (omega arith)
+
+-- what each value that is read keeps, all of them keep
+module _ {A : Type 0} (read : List A → Reader A) (Inv : List A → Type 0)
+    (keeps : (done : List A) (bytes : List ℕ) (a : A) (r : List ℕ) → Inv done → read done bytes ≡ found a r → Inv (done ++ (a ∷ []))) where
+  many-keeps : (n : ℕ) (done : List A) (bytes : List ℕ) (out : List A) (r : List ℕ) → Inv done → many read n done bytes ≡ found out r → Inv out
+  unfolding many
+  many-keeps zero done bytes out r i h = let z : done ≡ out = cc in subst Inv z i
+  many-keeps (suc n) done bytes out r i h =
+      let (a, rest, e, k) = came (read done bytes) _ out r h in
+      many-keeps n (done ++ (a ∷ [])) rest out r (keeps done bytes a rest i e) k
+
+module _ {A : Type 0} (read : List A → Reader A) where
+  many-length : (n : ℕ) (done : List A) (bytes : List ℕ) (out : List A) (r : List ℕ) → many read n done bytes ≡ found out r → length out ≡ length done + n
+  unfolding many
+  many-length zero done bytes out r h = let z : done ≡ out = cc in omega (arith, ap length z)
+  many-length (suc n) done bytes out r h =
+      let (a, rest, e, k) = came (read done bytes) _ out r h in
+      omega (arith, many-length n (done ++ (a ∷ [])) rest out r k, length-append done (a ∷ []))
+
+-- Instructions numbered from n on, their operations from `at` on
+abbrev pub Laid : ℕ → ℕ → ℕ → List Instruction → Type 0
+Laid p at n [] = Unit {0}
+Laid p at n (i ∷ is) = (i .first ≡ at) × (i .number ≡ n) × Laid p (at + length (roles p (i .kind))) (suc n) is
+
+laid-more : (p at n : ℕ) (is : List Instruction) (i : Instruction) → Laid p at n is → i .first ≡ at + operationCount p is → i .number ≡ n + length is
+    → Laid p at n (is ++ (i ∷ []))
+unfolding operationCount
+laid-more p at n [] i l f m = (omega arith, omega arith, tt)
+laid-more p at n (j ∷ is) i l f m =
+    (l .0, l .1, laid-more p (at + length (roles p (j .kind))) (suc n) is i (l .2) (omega arith) (omega arith))
+
+-- an instruction that passed its questions
+pub record Sound (processors lines : ℕ) (i : Instruction) : Type 0 where
+  pub own : i .processor < processors
+  pub size-passed : question7 (i .kind) (i .size) ≡ true
+  pub address-passed : question8 lines (i .kind) (i .size) (i .address) ≡ true
+  pub bytes-length : length (i .bytes) ≡ i .size
+
+module _ {A : Type 0} where
+  abbrev pub Each : (A → Type 0) → List A → Type 0
+  Each P [] = Unit {0}
+  Each P (x ∷ xs) = P x × Each P xs
+
+  each-more : (P : A → Type 0) (l : List A) (a : A) → Each P l → P a → Each P (l ++ (a ∷ []))
+  each-more P [] a h k = (k, tt)
+  each-more P (x ∷ l) a h k = (h .0, each-more P l a (h .1) k)
+
+  pub each-at : (P : A → Type 0) (l : List A) (d : A) (i : ℕ) → Each P l → i < length l → P (getD l i d)
+  each-at P [] d i h l = absurd (omega arith)
+  each-at P (x ∷ xs) d zero h l = h .0
+  each-at P (x ∷ xs) d (suc i) h l = each-at P xs d i (h .1) (omega arith)
+
+size-small : (k : Kind) (size : ℕ) → question7 k size ≡ true → size ≤ 8
+unfolding question7 all
+size-small k size q = leb-true size 8 (split (isFence k)
+    (λ h. all-member (λ n. leb n 8) (member-in (0 ∷ []) size (rw h at q)) refl)
+    (λ h. all-member (λ n. leb n 8) (member-in (1 ∷ 2 ∷ 4 ∷ 8 ∷ []) size (rw h at q)) refl))
+
+abbrev Read : ℕ → ℕ → List Instruction → Type 0
+Read processors lines is = Laid processors 0 0 is × Each (Sound processors lines) is
+
+module _ (processors lines : ℕ) where
+  module _ (p : ℕ) (own : p < processors) where
+    sound : (done : List Instruction) (x : List ℕ) → length x ≡ 11 → question7 (kindOf (getD x 0 0)) (getD x 2 0) ≡ true
+        → question8 lines (kindOf (getD x 0 0)) (getD x 2 0) (getD x 1 0) ≡ true → Sound processors lines (instructionOf processors p done x)
+    unfolding instructionOf
+    sound done x long seven eight = record {
+      own = own;
+      size-passed = seven;
+      address-passed = eight;
+      bytes-length = length-take-le (getD x 2 0) (drop 3 x) (omega (arith, length-drop 3 x, size-small (kindOf (getD x 0 0)) (getD x 2 0) seven));
+    }
+
+    more : (done : List Instruction) (x : List ℕ) (i : Instruction) → Read processors lines done → instructionOf processors p done x ≡ i
+        → Sound processors lines (instructionOf processors p done x) → Read processors lines (done ++ (i ∷ []))
+    unfolding instructionOf
+    more done x i inv e s =
+        subst (λ (j : Instruction). Read processors lines (done ++ (j ∷ []))) e
+        (laid-more processors 0 0 done _ (inv .0) (omega arith) (omega arith), each-more (Sound processors lines) done _ (inv .1) s)
+
+    instruction-keeps : (done : List Instruction) (bytes : List ℕ) (i : Instruction) (r : List ℕ)
+        → Read processors lines done → readInstruction processors lines p done bytes ≡ found i r → Read processors lines (done ++ (i ∷ []))
+    unfolding readInstruction
+    instruction-keeps done bytes i r inv h =
+        step (item 11 bytes) _ i r h (λ x b1 e1 h1.
+        step (ask 6 _ b1) _ i r h1 (λ u2 b2 e2 h2.
+        step (ask 7 _ b2) _ i r h2 (λ u3 b3 e3 h3.
+        step (ask 8 _ b3) _ i r h3 (λ u4 b4 e4 h4.
+        step (ask 9 _ b4) _ i r h4 (λ u5 b5 e5 h5.
+          more done x i inv (cc)
+            (sound done x (item-length 11 bytes x b1 e1)
+              (asked 7 (question7 (kindOf (getD x 0 0)) (getD x 2 0)) b2 u3 b3 e3)
+              (asked 8 (question8 lines (kindOf (getD x 0 0)) (getD x 2 0) (getD x 1 0)) b3 u4 b4 e4)))))))
+
+    program-keeps : (done : List Instruction) (bytes : List ℕ) (out : List Instruction) (r : List ℕ)
+        → Read processors lines done → readProgram processors lines p done bytes ≡ found out r → Read processors lines out × (length out ≤ 40)
+    unfolding readProgram question5
+    program-keeps done bytes out r inv h =
+        step (byte bytes) _ out r h (λ n b1 e1 h1.
+        step (ask 5 _ b1) _ out r h1 (λ u2 b2 e2 h2.
+          (
+            many-keeps (readInstruction processors lines p) (Read processors lines) instruction-keeps n done b2 out r inv h2,
+            omega (
+              arith,
+              many-length (readInstruction processors lines p) n done b2 out r h2,
+              leb-true (length done + n) 40 (asked 5 (leb (length done + n) 40) b1 u2 b2 e2),
+            ),
+          )))
+
+  programs-keep : (p left : ℕ) (done : List Instruction) (bytes : List ℕ) (out : List Instruction) (r : List ℕ) → p + left ≤ processors
+      → Read processors lines done → length done ≤ 40 → readPrograms processors lines p left done bytes ≡ found out r → Read processors lines out × (length out ≤ 40)
+  unfolding readPrograms
+  programs-keep p zero done bytes out r few inv short h = let z : done ≡ out = cc in subst (λ (l : List Instruction). Read processors lines l × (length l ≤ 40)) z (inv, short)
+  programs-keep p (suc left) done bytes out r few inv short h =
+      let (more, rest, e, k) = came (readProgram processors lines p done bytes) _ out r h in
+      let (inv′, short′) = program-keeps p (omega arith) done bytes more rest inv e in
+      programs-keep (suc p) left more rest out r (omega arith) inv′ short′ k
+
+-- What an accepted record gives
+pub record Accepted (e : Execution) : Type 0 where
+  pub processors-few : e .processors ≤ 8
+  pub lines-some : 1 ≤ length (e .lines)
+  pub lines-few : length (e .lines) ≤ 8
+  pub instructions-few : length (e .instructions) ≤ 40
+  pub operations-few : operations e ≤ 128
+  pub laid : Laid (e .processors) 0 0 (e .instructions)
+  pub sound : Each (Sound (e .processors) (length (e .lines))) (e .instructions)
+
+lines-counted : (bytes : List ℕ) (lines : List Line) (r : List ℕ) → readLines bytes ≡ found lines r → (1 ≤ length lines) × (length lines ≤ 8)
+unfolding readLines question3
+lines-counted bytes lines r h =
+    step (byte bytes) _ lines r h (λ n b1 e1 h1.
+    step (ask 3 _ b1) _ lines r h1 (λ u2 b2 e2 h2.
+      let (some, few) = and-parts (leb 1 n) (leb n 8) (asked 3 (leb 1 n && leb n 8) b1 u2 b2 e2) in
+      let long = many-length (λ done. readLine) n [] b2 lines r h2 in
+      (omega (arith, leb-true 1 n some, long), omega (arith, leb-true n 8 few, long))))
+
+pub accepted : (bytes : List ℕ) (e : Execution) (rest : List ℕ) → readRecord bytes ≡ found e rest → Accepted e
+unfolding readRecord readInstructions question2 question11 operations
+accepted bytes e rest h =
+    step (byte bytes) _ e rest h (λ p b1 e1 h1.
+    step (ask 2 _ b1) _ e rest h1 (λ u2 b2 e2 h2.
+    step (readLines b2) _ e rest h2 (λ lines b3 e3 h3.
+    step (readInstructions p (length lines) b3) _ e rest h3 (λ is b4 e4 h4.
+    step (readPairs is b4) _ e rest h4 (λ pairs b5 e5 h5.
+    step (question15 b5) _ e rest h5 (λ u6 b6 e6 h6.
+    step (readPrograms p (length lines) 0 p [] b3) _ is b4 e4 (λ js b7 e7 h7.
+    step (ask 10 _ b7) _ is b4 h7 (λ u8 b8 e8 h8.
+    step (ask 11 _ b8) _ is b4 h8 (λ u9 b9 e9 h9.
+      let z : record { processors = p; lines = lines; instructions = is; pairs = pairs } ≡ e = cc in
+      let w : js ≡ is = cc in
+      let (inv, short) = programs-keep p (length lines) 0 p [] b3 js b7 (omega arith) (tt, tt) (omega arith) e7 in
+      let counted = lines-counted b2 lines b3 e3 in
+      let (some, few) = and-parts (leb 1 p) (leb p 8) (asked 2 (leb 1 p && leb p 8) b1 u2 b2 e2) in
+      subst Accepted z (record {
+        processors-few = leb-true p 8 few;
+        lines-some = counted .0;
+        lines-few = counted .1;
+        instructions-few = subst (λ (l : List Instruction). length l ≤ 40) w short;
+        operations-few = subst (λ (l : List Instruction). operationCount p l ≤ 128) w (leb-true (operationCount p js) 128 (asked 11 (leb (operationCount p js) 128) b8 u9 b9 e9));
+        laid = subst (Laid p 0 0) w (inv .0);
+        sound = subst (Each (Sound p (length lines))) w (inv .1);
+      }))))))))))
