@@ -2,3 +2,4 @@
 pub mod Counts
 pub mod Eights
 pub mod Items
+pub mod Arrays

@@ -6,14 +6,20 @@ ghost use lib.Seq.{paste};
 
 // The bytes of a line, of an instruction and of a pair in the record.
 pub const LINE_LENGTH: usize = 9;
+
 pub const ENTRY_LENGTH: usize = 11;
+
 pub const PAIR_LENGTH: usize = 2;
 
 // The most processors, lines, instructions, operations and pairs of a record.
 pub const MOST_PROCESSORS: u8 = 8;
+
 pub const MOST_LINES: u8 = 8;
+
 pub const MOST_INSTRUCTIONS: usize = 40;
+
 pub const MOST_OPERATIONS: usize = 128;
+
 pub const MOST_PAIRS: u8 = 40;
 
 // The number of an instruction, from 0 through the record.

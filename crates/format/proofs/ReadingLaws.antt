@@ -20,11 +20,6 @@ use Rattle.decoded.specs.Steps.{foundBy, Walked}
 use Rattle.format.specs.Readings.{afterInstructions, afterLines}
 use Rattle.decoded.proofs.Items.{byte-short, byte-there}
 
--- the number of lines that arrays hold
-pub lines-length : (x : Lines) → length (linesOf x) ≡ x .count
-unfolding linesOf below
-lines-length x = length-map (below (x .count)) (lineAt x) ∙ length-count 0 (x .count)
-
 module _ {A B : Type 0} {walk : Found A} {part : List ℕ} {step : Step} {value : A} (walked : Walked walk part step value) (after : A → Reader B) where
   -- a section that is refused refuses the rest
   pub section-fails : {q : ℕ} → step ≡ Refused q → next walk after ≡ no-to q

@@ -5,17 +5,17 @@ ghost use Rattle.model.specs.Calls.{refuses, answerOf, readAll};
 ghost use Rattle.decoded.specs.Decoded.{linesOf, instructionsOf};
 ghost use Rattle.format.specs.Readings.{readingOf, afterLines, afterInstructions};
 use decoded::types::Execution;
-use decoded::types::MOST_PROCESSORS;
 use decoded::types::Instructions;
 use decoded::types::Lines;
+use decoded::types::MOST_PROCESSORS;
 use decoded::types::Step;
 use decoded::types::wide;
-use sections::lines::no_lines;
-use sections::lines::read_lines;
-use sections::pairs::no_pairs;
-use sections::pairs::read_pairs;
-use sections::programs::no_instructions;
-use sections::programs::read_instructions;
+use lines::no_lines;
+use lines::read_lines;
+use pairs::no_pairs;
+use pairs::read_pairs;
+use programs::no_instructions;
+use programs::read_instructions;
 
 pub enum Answer {
     Accepted,

@@ -128,25 +128,24 @@ module _ (processors lines : ℕ) where
         step (ask 7 _ b2) _ i r h2 (λ u3 b3 e3 h3.
         step (ask 8 _ b3) _ i r h3 (λ u4 b4 e4 h4.
         step (ask 9 _ b4) _ i r h4 (λ u5 b5 e5 h5.
-          more done x i inv (cc)
-            (sound done x (item-length 11 bytes x b1 e1)
-              (asked 7 (question7 (kindOf (getD x 0 0)) (getD x 2 0)) b2 u3 b3 e3)
-              (asked 8 (question8 lines (kindOf (getD x 0 0)) (getD x 2 0) (getD x 1 0)) b3 u4 b4 e4)))))))
+        more done x i inv (cc)
+        (sound done x (item-length 11 bytes x b1 e1)
+        (asked 7 (question7 (kindOf (getD x 0 0)) (getD x 2 0)) b2 u3 b3 e3)
+        (asked 8 (question8 lines (kindOf (getD x 0 0)) (getD x 2 0) (getD x 1 0)) b3 u4 b4 e4)))))))
 
     program-keeps : (done : List Instruction) (bytes : List ℕ) (out : List Instruction) (r : List ℕ)
         → Read processors lines done → readProgram processors lines p done bytes ≡ found out r → Read processors lines out × (length out ≤ 40)
     unfolding readProgram question5
     program-keeps done bytes out r inv h =
         step (byte bytes) _ out r h (λ n b1 e1 h1.
-        step (ask 5 _ b1) _ out r h1 (λ u2 b2 e2 h2.
-          (
-            many-keeps (readInstruction processors lines p) (Read processors lines) instruction-keeps n done b2 out r inv h2,
-            omega (
-              arith,
-              many-length (readInstruction processors lines p) n done b2 out r h2,
-              leb-true (length done + n) 40 (asked 5 (leb (length done + n) 40) b1 u2 b2 e2),
-            ),
-          )))
+        step (ask 5 _ b1) _ out r h1 (λ u2 b2 e2 h2. (
+          many-keeps (readInstruction processors lines p) (Read processors lines) instruction-keeps n done b2 out r inv h2,
+          omega (
+            arith,
+            many-length (readInstruction processors lines p) n done b2 out r h2,
+            leb-true (length done + n) 40 (asked 5 (leb (length done + n) 40) b1 u2 b2 e2),
+          ),
+        )))
 
   programs-keep : (p left : ℕ) (done : List Instruction) (bytes : List ℕ) (out : List Instruction) (r : List ℕ) → p + left ≤ processors
       → Read processors lines done → length done ≤ 40 → readPrograms processors lines p left done bytes ≡ found out r → Read processors lines out × (length out ≤ 40)
@@ -172,9 +171,9 @@ unfolding readLines question3
 lines-counted bytes lines r h =
     step (byte bytes) _ lines r h (λ n b1 e1 h1.
     step (ask 3 _ b1) _ lines r h1 (λ u2 b2 e2 h2.
-      let (some, few) = and-parts (leb 1 n) (leb n 8) (asked 3 (leb 1 n && leb n 8) b1 u2 b2 e2) in
-      let long = many-length (λ done. readLine) n [] b2 lines r h2 in
-      (omega (arith, leb-true 1 n some, long), omega (arith, leb-true n 8 few, long))))
+    let (some, few) = and-parts (leb 1 n) (leb n 8) (asked 3 (leb 1 n && leb n 8) b1 u2 b2 e2) in
+    let long = many-length (λ done. readLine) n [] b2 lines r h2 in
+    (omega (arith, leb-true 1 n some, long), omega (arith, leb-true n 8 few, long))))
 
 pub accepted : (bytes : List ℕ) (e : Execution) (rest : List ℕ) → readRecord bytes ≡ found e rest → Accepted e
 unfolding readRecord readInstructions question2 question11 operations
@@ -188,17 +187,17 @@ accepted bytes e rest h =
     step (readPrograms p (length lines) 0 p [] b3) _ is b4 e4 (λ js b7 e7 h7.
     step (ask 10 _ b7) _ is b4 h7 (λ u8 b8 e8 h8.
     step (ask 11 _ b8) _ is b4 h8 (λ u9 b9 e9 h9.
-      let z : record { processors = p; lines = lines; instructions = is; pairs = pairs } ≡ e = cc in
-      let w : js ≡ is = cc in
-      let (inv, short) = programs-keep p (length lines) 0 p [] b3 js b7 (omega arith) (tt, tt) (omega arith) e7 in
-      let counted = lines-counted b2 lines b3 e3 in
-      let (some, few) = and-parts (leb 1 p) (leb p 8) (asked 2 (leb 1 p && leb p 8) b1 u2 b2 e2) in
-      subst Accepted z (record {
-        processors-few = leb-true p 8 few;
-        lines-some = counted .0;
-        lines-few = counted .1;
-        instructions-few = subst (λ (l : List Instruction). length l ≤ 40) w short;
-        operations-few = subst (λ (l : List Instruction). operationCount p l ≤ 128) w (leb-true (operationCount p js) 128 (asked 11 (leb (operationCount p js) 128) b8 u9 b9 e9));
-        laid = subst (Laid p 0 0) w (inv .0);
-        sound = subst (Each (Sound p (length lines))) w (inv .1);
-      }))))))))))
+    let z : record { processors = p; lines = lines; instructions = is; pairs = pairs } ≡ e = cc in
+    let w : js ≡ is = cc in
+    let (inv, short) = programs-keep p (length lines) 0 p [] b3 js b7 (omega arith) (tt, tt) (omega arith) e7 in
+    let counted = lines-counted b2 lines b3 e3 in
+    let (some, few) = and-parts (leb 1 p) (leb p 8) (asked 2 (leb 1 p && leb p 8) b1 u2 b2 e2) in
+    subst Accepted z (record {
+      processors-few = leb-true p 8 few;
+      lines-some = counted .0;
+      lines-few = counted .1;
+      instructions-few = subst (λ (l : List Instruction). length l ≤ 40) w short;
+      operations-few = subst (λ (l : List Instruction). operationCount p l ≤ 128) w (leb-true (operationCount p js) 128 (asked 11 (leb (operationCount p js) 128) b8 u9 b9 e9));
+      laid = subst (Laid p 0 0) w (inv .0);
+      sound = subst (Each (Sound p (length lines))) w (inv .1);
+    }))))))))))

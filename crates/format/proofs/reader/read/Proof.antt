@@ -16,7 +16,7 @@ use Rattle.format.proofs.reader.read.Tie as tie
 use Rattle.format.proofs.reader.read.Reads as reads
 use Rattle.format.proofs.reader.read.Lts as lts
 use Rattle.decoded.proofs.types.wide.Reads as wide-reads
-use Rattle.sections.proofs.lines.read_lines.Reads as read-lines-reads
+use Rattle.lines.proofs.read_lines.Reads as read-lines-reads
 use Rattle.format.proofs.reader.read_rest.Reads as read-rest-reads
 use Rattle.format.proofs.reader.refused.Reads as refused-reads
 

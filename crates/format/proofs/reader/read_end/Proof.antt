@@ -7,7 +7,7 @@ use Rattle.format.proofs.reader.read_end.Statement.{statement}
 use Rattle.format.proofs.reader.read_end.Tie as tie
 use Rattle.format.proofs.reader.read_end.Reads as reads
 use Rattle.format.proofs.reader.read_end.Lts as lts
-use Rattle.sections.proofs.pairs.read_pairs.Reads as read-pairs-reads
+use Rattle.pairs.proofs.read_pairs.Reads as read-pairs-reads
 use Rattle.format.proofs.reader.refused.Reads as refused-reads
 
 read-pairs-requires : tie.Need-read-pairs-requires

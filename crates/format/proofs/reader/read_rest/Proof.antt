@@ -1,17 +1,18 @@
 -- The programs, then what follows them.
 use native.Mathlib.Omega.{arith}
 use mathlib.Core.Path.{refl, sym, ap, _∙_}
+use Rattle.decoded.proofs.Arrays.{lines-length}
 use Rattle.base.proofs.Copies.{rest}
 use Rattle.model.specs.Calls.{answerOf}
 use Rattle.decoded.specs.Decoded.{linesOf, instructionsOf}
 use Rattle.format.specs.Readings.{afterInstructions}
-use Rattle.format.proofs.ReadingLaws.{lines-length, rest-fails, rest-read}
+use Rattle.format.proofs.ReadingLaws.{rest-fails, rest-read}
 use borrow.Author.Needs.{needs}
 use Rattle.format.proofs.reader.read_rest.Statement.{statement}
 use Rattle.format.proofs.reader.read_rest.Tie as tie
 use Rattle.format.proofs.reader.read_rest.Reads as reads
 use Rattle.format.proofs.reader.read_rest.Lts as lts
-use Rattle.sections.proofs.programs.read_instructions.Reads as read-instructions-reads
+use Rattle.programs.proofs.read_instructions.Reads as read-instructions-reads
 use Rattle.format.proofs.reader.read_end.Reads as read-end-reads
 use Rattle.format.proofs.reader.refused.Reads as refused-reads
 

@@ -1,0 +1,15 @@
+-- No line stands in arrays whose count is 0.
+use mathlib.Core.Path.{refl}
+use Rattle.base.specs.Lists.{below, count}
+use Rattle.decoded.specs.Decoded.{linesOf}
+use Rattle.lines.proofs.no_lines.Statement.{statement}
+use Rattle.lines.proofs.no_lines.Tie as tie
+use Rattle.lines.proofs.no_lines.Reads as reads
+use Rattle.lines.proofs.no_lines.Lts as lts
+
+returns : tie.Need-returns
+unfolding linesOf below count
+returns c = (refl, refl)
+
+pub no-lines-spec : {M : Type 1} → statement M
+no-lines-spec = tie.close (tie.spec returns)

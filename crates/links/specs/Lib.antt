@@ -1,0 +1,2 @@
+-- The marks of two instructions, and the links that they give.
+pub mod Marks

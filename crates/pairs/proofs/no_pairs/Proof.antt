@@ -1,0 +1,15 @@
+-- No pair stands in arrays whose count is 0.
+use mathlib.Core.Path.{refl}
+use Rattle.base.specs.Lists.{below, count}
+use Rattle.decoded.specs.Decoded.{pairsOf}
+use Rattle.pairs.proofs.no_pairs.Statement.{statement}
+use Rattle.pairs.proofs.no_pairs.Tie as tie
+use Rattle.pairs.proofs.no_pairs.Reads as reads
+use Rattle.pairs.proofs.no_pairs.Lts as lts
+
+returns : tie.Need-returns
+unfolding pairsOf below count
+returns c = (refl, refl)
+
+pub no-pairs-spec : {M : Type 1} → statement M
+no-pairs-spec = tie.close (tie.spec returns)

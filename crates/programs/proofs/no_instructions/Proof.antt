@@ -1,0 +1,15 @@
+-- No instruction stands in arrays whose count is 0.
+use mathlib.Core.Path.{refl}
+use Rattle.base.specs.Lists.{below, count}
+use Rattle.decoded.specs.Decoded.{instructionsOf}
+use Rattle.programs.proofs.no_instructions.Statement.{statement}
+use Rattle.programs.proofs.no_instructions.Tie as tie
+use Rattle.programs.proofs.no_instructions.Reads as reads
+use Rattle.programs.proofs.no_instructions.Lts as lts
+
+returns : tie.Need-returns
+unfolding instructionsOf below count
+returns c = (refl, refl, refl)
+
+pub no-instructions-spec : {M : Type 1} → statement M
+no-instructions-spec = tie.close (tie.spec returns)
