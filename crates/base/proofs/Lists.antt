@@ -2,9 +2,9 @@
 use Prim.Native.Nat.{ℕ, zero, suc, _+_, _≤_, _<_}
 use native.Mathlib.Omega.{arith}
 use native.Mathlib.Decide.{ℕ-discrete}
-use mathlib.Core.Path.{_≡_, refl, sym, ap, _∙_, subst}
+use mathlib.Core.Path.{_≡_, refl, sym, ap, ap₂, _∙_, subst}
 use mathlib.Core.Bool.{Bool, true, false, not, cond, _&&_, _||_, and-true, and-assoc, or-false, or-assoc, false≢true}
-use mathlib.Core.List.{List, [], _∷_, _++_, append-nil, map, map-append, List·Memᴰ, List·Memᴰ·head, List·Memᴰ·tail, List·Memᴰ·not-nil, List·Memᴰ·append-cases, Memᴰ·append-left, Memᴰ·append-right}
+use mathlib.Core.List.{List, [], _∷_, _++_, append-nil, append-assoc, map, map-append, List·Memᴰ, List·Memᴰ·head, List·Memᴰ·tail, List·Memᴰ·not-nil, List·Memᴰ·append-cases, Memᴰ·append-left, Memᴰ·append-right}
 use mathlib.Core.Logic.{_⊎_, inl, inr}
 use lib.Dec.{eqb, ltb}
 use lib.ListN.{length, getD}
@@ -137,6 +137,15 @@ module _ {A B : Type 0} where
       go (inl k) r = (x, List·Memᴰ·head refl, k)
       go (inr k) r = let (a, h, w) = r k in (a, List·Memᴰ·tail h, w)
 
+  pub for-append : (l m : List A) (f : A → List B) → for (l ++ m) f ≡ for l f ++ for m f
+  unfolding for
+  for-append [] m f = refl
+  for-append (a ∷ l) m f = ap (λ (t : List B). f a ++ t) (for-append l m f) ∙ sym (append-assoc (f a) (for l f) (for m f))
+
+  pub for-one : (a : A) (f : A → List B) → for (a ∷ []) f ≡ f a
+  unfolding for
+  for-one a f = append-nil (f a)
+
   pub in-for : (f : A → List B) {a : A} {z : B} {l : List A} → List·Memᴰ a l → List·Memᴰ z (f a) → List·Memᴰ z (for l f)
   unfolding for
   in-for f {a} {z} (List·Memᴰ·head {x = x} {xs = xs} e) h = Memᴰ·append-left (for xs f) (subst (λ (c : A). List·Memᴰ z (f c)) e h)
@@ -180,6 +189,14 @@ count-more from (suc n) = ap (λ (l : List ℕ). from ∷ l) (count-more (suc fr
 pub below-more : (n : ℕ) → below (suc n) ≡ below n ++ (n ∷ [])
 unfolding below
 below-more n = count-more 0 n ∙ ap (λ (k : ℕ). count 0 n ++ (k ∷ [])) (omega arith)
+
+pub count-split : (from m n : ℕ) → count from (m + n) ≡ count from m ++ count (from + m) n
+unfolding count
+count-split from zero n = ap₂ count (let z : from ≡ from + 0 = omega arith in z) (let z : 0 + n ≡ n = omega arith in z)
+count-split from (suc m) n =
+    ap (count from) (let z : suc m + n ≡ suc (m + n) = omega arith in z)
+    ∙ ap (λ (l : List ℕ). from ∷ l)
+    (count-split (suc from) m n ∙ ap (λ (k : ℕ). count (suc from) m ++ count k n) (let z : suc from + m ≡ from + suc m = omega arith in z))
 
 pub in-below : (n a : ℕ) → a < n → List·Memᴰ a (below n)
 unfolding below

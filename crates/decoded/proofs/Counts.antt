@@ -7,6 +7,7 @@ use mathlib.Core.List.{[], _∷_, map}
 use lib.ListN.{length, getD, length-map}
 use Rattle.base.specs.Lists.{below}
 use Rattle.base.proofs.Lists.{length-count, getD-below}
+use Rattle.decoded.specs.Kinds.{roleNumbered}
 use Rattle.model.specs.Execution.{Kind, ld, ld-acq, st, st-rel, mf, Role, R, LV, F, RV, isLoad, isStore, roles}
 
 pub store-operations : (p : ℕ) (k : Kind) → isStore k ≡ true → 1 + p ≡ length (roles p k)
@@ -61,3 +62,6 @@ fence-only p ld-acq place h e l = absurd (false≢true (sym e))
 fence-only p st place h e l = absurd (false≢true (sym h))
 fence-only p st-rel place h e l = absurd (false≢true (sym h))
 fence-only p mf place h e l = ap (λ (n : ℕ). getD (F ∷ []) n F) (let z : 0 ≡ place = omega arith in z)
+
+pub remote-numbered : (q : ℕ) → roleNumbered (3 + q) ≡ RV q
+remote-numbered q = ap roleNumbered (let z : 3 + q ≡ suc (suc (suc q)) = omega arith in z)

@@ -3,7 +3,7 @@ ghost use mathlib.Core.Path.{_≡_};
 ghost use Prim.Native.Nat.{ℕ, _+_, _/_, _<_, _≤_};
 ghost use lib.ListN.{length, getD};
 ghost use Rattle.model.specs.Execution.{F, kindOf, attributeOf, isLoad, isStore, isAcquire, isRelease, isFence, roles};
-ghost use Rattle.decoded.specs.Kinds.{meant, roleMeant, attributeMeant};
+ghost use Rattle.decoded.specs.Kinds.{meant, roleNumbered, attributeMeant};
 
 pub enum Kind {
     Ld,
@@ -86,29 +86,31 @@ pub fn is_fence(k: Kind) -> bool
     }
 }
 
-// What an operation is to its instruction.
-pub enum Role {
-    R,
-    LV,
-    F,
-    RV(usize),
-}
+// The roles of operations as numbers; RV_q is ROLE_RV + q.
+pub const ROLE_R: u8 = 0;
+
+pub const ROLE_LV: u8 = 1;
+
+pub const ROLE_F: u8 = 2;
+
+pub const ROLE_RV: u8 = 3;
 
 // The role of an instruction's operation by its place among them.
-pub fn role_of(k: Kind, place: usize) -> Role
-    ensures { λ r. ⌜ ((processors : ℕ) → place < length (roles processors (meant k)) → roleMeant r ≡ getD (roles processors (meant k)) place F) ⌝ }
+pub fn role_of(k: Kind, place: u8) -> u8
+    requires { ⌜ place ≤ 128 ⌝ }
+    ensures { λ r. ⌜ ((processors : ℕ) → place < length (roles processors (meant k)) → roleNumbered r ≡ getD (roles processors (meant k)) place F) ⌝ }
 {
     if is_store(k) {
         if place == 0 {
-            return Role::LV;
+            return ROLE_LV;
         }
         let q = place - 1;
-        return Role::RV(q);
+        return ROLE_RV + q;
     }
     if is_load(k) {
-        return Role::R;
+        return ROLE_R;
     }
-    Role::F
+    ROLE_F
 }
 
 // The number of operations that an instruction gives: R; LV and an RV for each processor; F.

@@ -6,3 +6,4 @@ pub mod Prefixes
 pub mod Legal
 pub mod ProgramOrder
 pub mod Accepted
+pub mod Numbers

@@ -12,6 +12,7 @@ use Rattle.base.proofs.Bools.{split}
 use Rattle.base.proofs.Lists.{length-count, map-below-more}
 use Rattle.model.specs.Execution as model
 use Rattle.model.specs.Execution.{kindOf, isStore, roles, operationCount}
+use Rattle.model.proofs.Numbers.{count-more}
 use Rattle.model.specs.Questions.{instructionOf}
 use Rattle.decoded.specs.declared.types.Instructions.{Instructions}
 use Rattle.decoded.specs.Decoded.{eight, instructionAt, instructionsOf}
@@ -20,13 +21,6 @@ use Rattle.decoded.proofs.Arrays.{instructions-length}
 use Rattle.decoded.proofs.Counts.{store-operations, other-operations}
 use Rattle.decoded.proofs.Eights.{drop-take, eight-new, eight-old}
 use Rattle.decoded.proofs.Items.{item-first, item-byte}
-
--- the operations of one instruction more
-pub count-more : (p : ℕ) (is : List model.Instruction) (i : model.Instruction)
-    → operationCount p (is ++ (i ∷ [])) ≡ operationCount p is + length (roles p (i .kind))
-unfolding operationCount
-count-more p [] i = omega arith
-count-more p (j ∷ is) i = omega (arith, count-more p is i)
 
 pub few-roles : (p : ℕ) (k : model.Kind) → p ≤ 8 → length (roles p k) ≤ 9
 few-roles p k h =

@@ -1,7 +1,8 @@
 -- The places of R, of LV and the RVs, and of F.
 use mathlib.Core.Path.{sym, _∙_}
+use Prim.Native.Nat.{_-_}
 use Rattle.decoded.specs.Kinds.{meant}
-use Rattle.decoded.proofs.Counts.{store-first, store-later, load-only, fence-only}
+use Rattle.decoded.proofs.Counts.{store-first, store-later, load-only, fence-only, remote-numbered}
 use borrow.Author.Needs.{needs}
 use Rattle.decoded.proofs.kind.role_of.Statement.{statement}
 use Rattle.decoded.proofs.kind.role_of.Tie as tie
@@ -19,8 +20,11 @@ returns c processors l = store-first processors (meant (c .before .before .befor
 sub-q : tie.Need-sub-q
 sub-q c = search needs
 
+add-result : tie.Need-add-result
+add-result c = search needs
+
 returns-2 : tie.Need-returns-2
-returns-2 c processors l = store-later processors (meant (c .before .before .before .args .k)) (c .before .before .before .args .place) (sym (c .before .before .is-store .ensures) ∙ c .before .if1 .taken) (c .if2 .left) l
+returns-2 c processors l = remote-numbered (c .before .before .before .args .place - 1) ∙ store-later processors (meant (c .before .before .before .args .k)) (c .before .before .before .args .place) (sym (c .before .before .is-store .ensures) ∙ c .before .if1 .taken) (c .if2 .left) l
 
 is-load-requires : tie.Need-is-load-requires
 is-load-requires c κs = search needs
@@ -34,4 +38,12 @@ returns-4 c processors l = fence-only processors (meant (c .before .before .befo
 pub role-of-spec : {M : Type 1} → statement M
 role-of-spec =
     tie.close
-    (tie.spec is-store-requires returns sub-q returns-2 is-load-requires returns-3 returns-4)
+    (tie.spec
+    is-store-requires
+    returns
+    sub-q
+    add-result
+    returns-2
+    is-load-requires
+    returns-3
+    returns-4)
