@@ -10,7 +10,7 @@ use lib.Dec.{eqb, ltb}
 use lib.ListN.{length, getD}
 use lib.Seq.{append-snoc}
 use borrow.Author.Tests.{eq-eqb, eqb-true, ltb-true}
-use Rattle.base.specs.Lists.{all, any, keep, when, for, count, below, member, distinct}
+use Rattle.base.specs.Lists.{all, any, keep, for, count, below, member, distinct}
 use Rattle.base.proofs.Bools.{and-parts}
 
 module _ {A : Type 0} where

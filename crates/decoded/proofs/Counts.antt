@@ -8,7 +8,7 @@ use lib.ListN.{length, getD, length-map}
 use Rattle.base.specs.Lists.{below}
 use Rattle.base.proofs.Lists.{length-count, getD-below}
 use Rattle.decoded.specs.Kinds.{roleNumbered}
-use Rattle.model.specs.Execution.{Kind, ld, ld-acq, st, st-rel, mf, Role, R, LV, F, RV, isLoad, isStore, roles}
+use Rattle.model.specs.Execution.{Kind, ld, ld-acq, st, st-rel, mf, R, LV, F, RV, isLoad, isStore, roles}
 
 pub store-operations : (p : ℕ) (k : Kind) → isStore k ≡ true → 1 + p ≡ length (roles p k)
 unfolding roles below

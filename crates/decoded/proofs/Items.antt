@@ -1,20 +1,18 @@
 -- What the questions of an item come to, and loops over items: what is left decides the whole.
-use Prim.Native.Nat.{ℕ, zero, suc, _+_, _-_, _≤_, _<_}
+use Prim.Native.Nat.{ℕ, suc, _+_, _-_, _≤_, _<_}
 use native.Mathlib.Omega.{arith}
 use native.Mathlib.Nat.{add-zero}
 use mathlib.Core.Path.{_≡_, refl, sym, ap, ap₂, _∙_}
-use mathlib.Core.Bool.{Bool, true, false, cond}
 use mathlib.Core.List.{List, [], _∷_, _++_}
 use lib.ListN.{length, getD, take, drop, length-drop}
 use lib.Seq.{drop-drop, getD-take, getD-drop}
-use lib.Dec.{leb}
 use borrow.Author.Tests.{le-leb, lt-leb}
-use Rattle.model.specs.Questions.{Found, no-to, found, Reader, next, item, byte, ask, many}
+use Rattle.model.specs.Questions.{Found, no-to, found, Reader, next, item, byte, many}
 use Rattle.decoded.specs.declared.types.Asked.{Asked}
 use Rattle.decoded.specs.declared.types.Asked.the-variants.{Pass, Fail}
 use Rattle.decoded.specs.declared.types.Step.{Step}
 use Rattle.decoded.specs.declared.types.Step.the-variants.{Refused, Next}
-use Rattle.decoded.specs.Steps.{foundBy, Walked, foundIf, Answered}
+use Rattle.decoded.specs.Steps.{Walked, foundIf, Answered}
 
 -- question 1, for an item of k bytes at `at`
 pub item-short : (k at : ℕ) (part : List ℕ) → length part - at < k → item k (drop at part) ≡ no-to 1

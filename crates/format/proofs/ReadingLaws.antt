@@ -1,21 +1,17 @@
 -- The walk over a whole record, section by section.
-use Prim.Native.Nat.{ℕ, _+_, _≤_, _<_}
+use Prim.Native.Nat.{ℕ, _≤_, _<_}
 use native.Mathlib.Omega.{arith}
 use mathlib.Core.Path.{_≡_, refl, sym, ap, _∙_, subst}
-use mathlib.Core.Bool.{true, false, and-false}
+use mathlib.Core.Bool.{and-false}
 use mathlib.Core.List.{List, [], _∷_}
-use lib.ListN.{length, getD, drop, length-drop, length-map, drop-of-length-le}
+use lib.ListN.{length, getD, drop, length-drop, drop-of-length-le}
 use lib.Dec.{leb}
 use borrow.Author.Tests.{le-leb, lt-leb}
-use Rattle.base.specs.Lists.{below}
-use Rattle.base.proofs.Lists.{length-count}
 use Rattle.model.specs.Execution as model
-use Rattle.model.specs.Questions.{Found, no-to, found, Reader, pure, next, _>>=_, _>>_, ask, question2, question15, readLines, readInstructions, readPairs, readRecord}
-use Rattle.model.specs.Calls.{Answer, says, refuses, answerOf, readAll}
-use Rattle.decoded.specs.declared.types.Lines.{Lines}
+use Rattle.model.specs.Questions.{Found, no-to, found, Reader, next, ask, question2, question15, readLines, readInstructions, readPairs, readRecord}
+use Rattle.model.specs.Calls.{says, refuses, answerOf, readAll}
 use Rattle.decoded.specs.declared.types.Step.{Step}
 use Rattle.decoded.specs.declared.types.Step.the-variants.{Refused, Next}
-use Rattle.decoded.specs.Decoded.{lineAt, linesOf}
 use Rattle.decoded.specs.Steps.{foundBy, Walked}
 use Rattle.format.specs.Readings.{afterInstructions, afterLines}
 use Rattle.decoded.proofs.Items.{byte-short, byte-there}

@@ -3,7 +3,7 @@ use Prim.Native.Nat.{ℕ}
 use mathlib.Core.List.{List}
 use lib.ListN.{length}
 use Rattle.model.specs.Execution as model
-use Rattle.model.specs.Questions.{Reader, pure, next, _>>=_, _>>_, question15, readInstructions, readPairs}
+use Rattle.model.specs.Questions.{Reader, pure, _>>=_, _>>_, question15, readInstructions, readPairs}
 use Rattle.model.specs.Calls as calls
 use Rattle.format.specs.declared.reader.Answer.{Answer}
 use Rattle.format.specs.declared.reader.Answer.the-variants.{Accepted, Refused}

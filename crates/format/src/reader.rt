@@ -1,6 +1,6 @@
 // The reader of a whole record.
 ghost use mathlib.Core.Path.{_≡_};
-ghost use Prim.Native.Nat.{ℕ, _≤_};
+ghost use Prim.Native.Nat.{_≤_};
 ghost use Rattle.model.specs.Calls.{refuses, answerOf, readAll};
 ghost use Rattle.decoded.specs.Decoded.{linesOf, instructionsOf};
 ghost use Rattle.format.specs.Readings.{readingOf, afterLines, afterInstructions};

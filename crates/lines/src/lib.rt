@@ -1,7 +1,7 @@
 // The section of lines.
 ghost use mathlib.Core.Path.{_≡_};
 ghost use mathlib.Core.List.{[], _∷_, _++_};
-ghost use Prim.Native.Nat.{ℕ, _+_, _<_, _≤_};
+ghost use Prim.Native.Nat.{_+_, _<_, _≤_};
 ghost use lib.ListN.{length, take, drop};
 ghost use Rattle.model.specs.Questions.{lineLength, lineOf, readLine, readLines, many};
 ghost use Rattle.decoded.specs.Decoded.{linesOf};

@@ -1,8 +1,7 @@
 // What two instructions are to each other, as marks added up in one number.
 ghost use mathlib.Core.Path.{_≡_};
-ghost use mathlib.Core.Bool.{Bool, cond};
-ghost use Prim.Native.Nat.{ℕ, _/_, _%_, _<_, _≤_, min, max};
-ghost use lib.Dec.{eqb};
+ghost use mathlib.Core.Bool.{cond};
+ghost use Prim.Native.Nat.{_/_, _%_, _<_, _≤_, min, max};
 ghost use Rattle.model.specs.Execution.{kindOf};
 ghost use Rattle.links.specs.Marks.{programMarks, sharesByte, hasMark};
 

@@ -1,7 +1,7 @@
 // The table of operations: for each operation the number of its instruction, and its role.
 ghost use mathlib.Core.Path.{_≡_};
-ghost use mathlib.Core.List.{List, _++_};
-ghost use Prim.Native.Nat.{ℕ, _+_, _<_, _≤_};
+ghost use mathlib.Core.List.{_++_};
+ghost use Prim.Native.Nat.{_+_, _<_, _≤_};
 ghost use lib.ListN.{length, getD};
 ghost use Rattle.base.specs.Lists.{for};
 ghost use Rattle.model.specs.Execution.{kindOf, roles, operationCount, operationsOf};

@@ -1,5 +1,5 @@
 -- What holds of an execution whose record is accepted: instructions and operations are numbered one after the other, and each instruction passed its questions.
-use Prim.Native.Nat.{ℕ, zero, suc, _+_, _*_, _≤_, _<_}
+use Prim.Native.Nat.{ℕ, zero, suc, _+_, _≤_, _<_}
 use native.Mathlib.Omega.{arith}
 use mathlib.Core.Path.{_≡_, refl, sym, ap, _∙_, subst}
 use mathlib.Core.Bool.{Bool, true, false, cond, _&&_}
@@ -8,11 +8,11 @@ use lib.ListN.{length, getD, take, drop, length-append, length-drop}
 use lib.Seq.{length-take-le}
 use lib.Dec.{leb}
 use borrow.Author.Tests.{leb-true}
-use Rattle.base.specs.Lists.{all, member}
-use Rattle.base.proofs.Bools.{split, and-parts, clash}
+use Rattle.base.specs.Lists.{all}
+use Rattle.base.proofs.Bools.{split, and-parts}
 use Rattle.base.proofs.Lists.{member-in, all-member}
 use Rattle.model.specs.Execution.{Kind, kindOf, isFence, Instruction, Execution, roles, operationCount, operations, Line}
-use Rattle.model.specs.Questions.{Found, no-to, found, Reader, next, item, byte, ask, many, question2, question3, question5, question7, question8, question11, instructionOf, readLine, readLines, readInstruction, readProgram, readPrograms, readInstructions, readPair, readPairs, question15, readRecord}
+use Rattle.model.specs.Questions.{Found, no-to, found, Reader, next, item, byte, ask, many, question2, question3, question5, question7, question8, question11, instructionOf, readLine, readLines, readInstruction, readProgram, readPrograms, readInstructions, readPairs, question15, readRecord}
 
 -- Steps of a walk that found something
 

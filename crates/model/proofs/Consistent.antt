@@ -7,7 +7,7 @@ use lib.Dec.{eqb}
 use lib.Seq.{append-snoc}
 use Rattle.base.specs.Lists.{any, keep, member}
 use Rattle.base.proofs.Lists.{member-append, any-same, any-weaken}
-use Rattle.model.specs.Rules.{before, Writer, Sight, Claim, must, _⇒_, never, sees, byteOf, latest, local, byteRead, broken, keeps}
+use Rattle.model.specs.Rules.{before, Sight, Claim, must, _⇒_, never, sees, byteOf, latest, local, byteRead, broken, keeps}
 use Rattle.model.proofs.Before.{then, before-stays, before-kept-first, before-kept-second}
 
 -- the byte that a load reads is settled once its R stands

@@ -1,19 +1,18 @@
 -- A prefix breaks no rule exactly when it is consistent; so an order of all operations is judged legal exactly when it is consistent.
-use Prim.Native.Nat.{ℕ, zero, suc}
-use mathlib.Core.Path.{_≡_, refl, sym, ap, _∙_}
+use Prim.Native.Nat.{ℕ, suc}
+use mathlib.Core.Path.{_≡_, refl, ap, _∙_}
 use mathlib.Core.Bool.{Bool, true, false, not, cond, _||_}
 use mathlib.Core.List.{List, [], _∷_, List·Memᴰ}
 use mathlib.Core.Logic.{_↔_}
-use mathlib.Core.Option.{Option, none, some}
+use mathlib.Core.Option.{some}
 use lib.ListN.{length}
-use lib.Dec.{eqb}
 use borrow.Author.Tests.{eq-eqb}
 use Rattle.base.specs.Lists.{any, distinct}
 use Rattle.model.specs.Execution.{Execution, operations}
 use Rattle.model.specs.Questions.{found, next, ask, readRecord}
 use Rattle.model.specs.Rules.{Claim, broken, lowestFrom, lowestBroken, rules, keeps, consistent}
 use Rattle.model.specs.Search.{prefixes}
-use Rattle.model.specs.Calls.{Answer, says, answerOf, Judgement, legal, breaks, judgementOf, judging, judgeCall}
+use Rattle.model.specs.Calls.{says, answerOf, legal, judgementOf, judging, judgeCall}
 use Rattle.model.proofs.Consistent.{keeps-shorter, keeps-empty}
 use Rattle.model.proofs.Prefixes.{Ascending, prefixes-ascend, prefixes-are}
 

@@ -1,10 +1,10 @@
 -- The table of rule marks says what rules 2, 3 and 4 say.
 use Prim.Native.Nat.{ℕ}
 use mathlib.Core.Path.{_≡_, refl}
-use mathlib.Core.Bool.{Bool, true, false, Bool·beq, _&&_, _||_}
+use mathlib.Core.Bool.{Bool, true, Bool·beq, _&&_, _||_}
 use mathlib.Core.List.{List, [], _∷_, List·Memᴰ, List·Memᴰ·head, List·Memᴰ·tail}
 use Rattle.base.specs.Lists.{all, member}
-use Rattle.base.proofs.Bools.{and-parts, beq-same}
+use Rattle.base.proofs.Bools.{beq-same}
 use Rattle.base.proofs.Lists.{all-member}
 use Rattle.model.specs.Execution.{Kind, ld, ld-acq, st, st-rel, mf, isLoad, isStore, isAcquire, isRelease, isFence}
 use Rattle.model.specs.ProgramOrder.{ruleMarks, marks}

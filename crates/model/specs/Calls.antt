@@ -1,13 +1,12 @@
 -- Each call as one function of what came in: its answer, and every lent byte as it is left.
 use Prim.Native.Nat.{ℕ, _*_}
-use mathlib.Core.Bool.{Bool, true, false}
-use mathlib.Core.List.{List, [], _∷_, _++_}
+use mathlib.Core.List.{List, [], _++_}
 use mathlib.Core.Option.{Option, none, some}
 use lib.ListN.{length, take, drop}
 use lib.Dec.{eqb, leb}
 use Rattle.base.specs.Lists.{distinct}
 use Rattle.model.specs.Execution.{Execution, operations}
-use Rattle.model.specs.Questions.{Found, no-to, found, Reader, pure, next, _>>=_, _>>_, ask, readRecord}
+use Rattle.model.specs.Questions.{Found, no-to, found, Reader, pure, _>>=_, _>>_, ask, readRecord}
 use Rattle.model.specs.Rules.{linked, linksOf, rules, keeps, consistent, lowestBroken}
 use Rattle.model.specs.Search.{Verdict, Outcome, searchFrom}
 use Rattle.model.specs.Chains.{chainMarks}

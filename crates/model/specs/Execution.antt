@@ -1,9 +1,8 @@
 -- The execution that a record holds: processors, lines of memory, instructions and dependence pairs; instructions and their operations by number.
 use Prim.Native.Nat.{ℕ, suc, _+_, _/_, _%_}
-use mathlib.Core.Bool.{Bool, true, false, cond, _||_}
+use mathlib.Core.Bool.{Bool, true, false}
 use mathlib.Core.List.{List, [], _∷_, map}
 use lib.ListN.{length, getD}
-use lib.Dec.{eqb}
 use Rattle.base.specs.Lists.{keep, for, below}
 
 -- The kind of an instruction. Its number in the record is its place in this list.

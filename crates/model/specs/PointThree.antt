@@ -12,7 +12,7 @@ use Rattle.model.specs.Execution.{Execution, operations}
 use Rattle.model.specs.Questions.{found, readRecord}
 use Rattle.model.specs.Rules.{rules, keeps}
 use Rattle.model.specs.Search.{Verdict, allowed, forbidden, unfinished, prefixes, after}
-use Rattle.model.specs.Calls.{Answer, says, refuses, legal, judgeCall, SearchReply, searchCall}
+use Rattle.model.specs.Calls.{Answer, says, refuses, legal, judgeCall, searchCall}
 
 -- A call of the list, with its allowance: given the record and the whole buffer, or given other bytes as its record or a part of the buffer (from an index on, so many bytes).
 pub data Call : Type 0 where

@@ -2,10 +2,10 @@
 use Prim.Native.Nat.{ℕ, _+_}
 use mathlib.Core.List.{List, [], _∷_, _++_, map}
 use lib.ListN.{take, drop, replicate}
-use Rattle.base.specs.Lists.{for, below, count}
-use Rattle.model.specs.Notation.{x, y, wb, uc, wc, zeros, ld, ld-acq, st, st-rel, mf, entry, recordOf}
-use Rattle.model.specs.Rows.{Row, judged-no, searched-no, tabled-no, cut, lent}
-use Rattle.model.specs.PaperTable.{k1, k2, k11-pair, k12}
+use Rattle.base.specs.Lists.{for, below}
+use Rattle.model.specs.Notation.{x, wb, uc, wc, zeros, ld, st, mf, entry, recordOf}
+use Rattle.model.specs.Rows.{Row, judged-no, searched-no, tabled-no, cut}
+use Rattle.model.specs.PaperTable.{k1, k2, k11-pair}
 
 -- the record is refused with this number
 abbrev refused : List ℕ → ℕ → Row

@@ -5,7 +5,7 @@ use mathlib.Core.List.{List, [], _∷_, _++_}
 use lib.ListN.{length, getD, take, drop}
 use lib.Dec.{eqb, leb, ltb}
 use Rattle.base.specs.Lists.{all, member}
-use Rattle.model.specs.Execution.{Kind, kindOf, isStore, isFence, mf, attributeOf, Line, Instruction, Execution, operationCount, operations}
+use Rattle.model.specs.Execution.{Kind, kindOf, isStore, isFence, mf, attributeOf, Line, Instruction, Execution, operationCount}
 
 -- What a walk comes to: the number of the first question answered 'no', or a value and the bytes after it.
 pub data Found (A : Type 0) : Type 0 where

@@ -5,7 +5,7 @@ use mathlib.Core.List.{List, [], _∷_, _++_, map}
 use lib.ListN.{length, take, drop, replicate}
 use Rattle.base.specs.Lists.{below}
 use Rattle.model.specs.Search.{Verdict}
-use Rattle.model.specs.Calls.{Answer, says, refuses, Judgement, judgeCall, SearchReply, searchCall, Done, done, TableReply, tableCall}
+use Rattle.model.specs.Calls.{Answer, says, refuses, Judgement, judgeCall, SearchReply, searchCall, done, TableReply, tableCall}
 use Rattle.model.specs.PointThree.{Call, Course, start, course}
 use Rattle.model.specs.Verdict.{verdictLines}
 

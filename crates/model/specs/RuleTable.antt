@@ -7,9 +7,9 @@ use lib.ListN.{replicate}
 use Rattle.model.specs.Search.{allowed, forbidden}
 use Rattle.model.specs.Calls.{says, legal, breaks}
 use Rattle.model.specs.PointThree.{proper, other}
-use Rattle.model.specs.Notation.{x, y, wb, uc, wc, ld, ld-acq, st, st-rel, mf, entry, recordOf}
+use Rattle.model.specs.Notation.{x, y, wb, uc, wc, ld, ld-acq, st, st-rel, mf, recordOf}
 use Rattle.model.specs.Rows.{Row, judged, searched, searched-no, tabled, followed}
-use Rattle.model.specs.PaperTable.{k1, k2, k4}
+use Rattle.model.specs.PaperTable.{k1, k2}
 
 -- one program on the lines of x and y
 abbrev one : List ℕ → List ℕ → List (List ℕ) → List ℕ

@@ -1,12 +1,12 @@
 -- The visibility rules, each under its number, and what it is for a prefix to break them.
-use Prim.Native.Nat.{ℕ, zero, suc, _+_, _-_}
+use Prim.Native.Nat.{ℕ, suc, _+_, _-_}
 use mathlib.Core.Bool.{Bool, true, false, not, cond, _&&_, _||_}
-use mathlib.Core.List.{List, [], _∷_, _++_, map}
+use mathlib.Core.List.{List, [], _∷_, map}
 use mathlib.Core.Option.{Option, none, some}
 use lib.ListN.{getD}
 use lib.Dec.{eqb, leb, ltb}
 use Rattle.base.specs.Lists.{any, keep, when, for, count, below, member}
-use Rattle.model.specs.Execution.{Kind, isLoad, isStore, isAcquire, isRelease, isFence, isWB, isUC, Instruction, Execution, Role, R, LV, F, RV, numberOf, Operation, operations, allOperations, loads, stores, everyProcessor, attributeAt, initialByte}
+use Rattle.model.specs.Execution.{isAcquire, isRelease, isWB, isUC, Instruction, Execution, Role, R, LV, F, RV, numberOf, Operation, operations, allOperations, loads, stores, everyProcessor, attributeAt, initialByte}
 
 -- 'A before B' as a prefix (document 01: beginning) settles it: A stands in it, and B stands later or not at all
 unfoldable pub before : List ℕ → ℕ → ℕ → Bool

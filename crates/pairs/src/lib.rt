@@ -1,8 +1,8 @@
 // The section of dependence pairs.
 ghost use mathlib.Core.Path.{_≡_};
 ghost use mathlib.Core.List.{[], _∷_, _++_};
-ghost use Prim.Native.Nat.{ℕ, _+_, _<_, _≤_};
-ghost use lib.ListN.{length, getD, take, drop};
+ghost use Prim.Native.Nat.{_+_, _<_, _≤_};
+ghost use lib.ListN.{length, drop};
 ghost use Rattle.model.specs.Questions.{pairLength, question13, question14, readPair, readPairs, many};
 ghost use Rattle.decoded.specs.Decoded.{instructionsOf, pairOf, pairsOf};
 ghost use Rattle.decoded.specs.Steps.{Answered, Walked};

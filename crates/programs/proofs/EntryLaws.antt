@@ -1,16 +1,16 @@
 -- The questions of an instruction.
 use Prim.Native.Nat.{ℕ, _+_, _-_, _*_, _%_, _≤_, _<_}
 use native.Mathlib.Omega.{arith}
-use mathlib.Core.Path.{_≡_, refl, sym, ap, _∙_, subst}
-use mathlib.Core.Bool.{Bool, true, false, cond, not, _&&_, _||_, or-false, false≢true}
-use mathlib.Core.List.{List, [], _∷_, _++_}
+use mathlib.Core.Path.{_≡_, refl, sym, ap, _∙_}
+use mathlib.Core.Bool.{true, false, or-false}
+use mathlib.Core.List.{List, [], _∷_}
 use lib.ListN.{length, getD, take, drop, length-drop}
 use lib.Seq.{length-take-le, drop-drop}
 use lib.Dec.{eqb, leb, ltb}
 use borrow.Author.Tests.{le-leb, lt-leb, leb-true, ltb-true, eq-eqb, ne-eqb}
 use Rattle.base.specs.Lists.{all, member}
 use Rattle.base.specs.Below.{allBelow}
-use Rattle.base.proofs.Bools.{split, and-parts, eqb-swap}
+use Rattle.base.proofs.Bools.{split, eqb-swap}
 use Rattle.base.proofs.Lists.{member-in, all-member}
 use Rattle.base.proofs.Tests.{all-same, all-elements}
 use Rattle.model.specs.Execution.{Kind, Instruction, kindOf, isFence}

@@ -1,15 +1,14 @@
 -- One instruction more: what is set in the arrays is the instruction read, those before it are as they were, and its operations are counted.
-use Prim.Native.Nat.{ℕ, suc, _+_, _*_, _≤_, _<_}
+use Prim.Native.Nat.{ℕ, _+_, _*_, _≤_, _<_}
 use native.Mathlib.Omega.{arith}
 use native.Mathlib.Numerals.{add-one}
 use mathlib.Core.Path.{_≡_, refl, sym, ap, _∙_}
-use mathlib.Core.Bool.{true, false}
 use mathlib.Core.List.{List, [], _∷_, _++_, map}
-use lib.ListN.{length, getD, take, drop, set, length-drop, length-map}
+use lib.ListN.{length, getD, take, drop, set, length-drop}
 use lib.Seq.{paste, getD-set-same, getD-set-other, drop-drop}
 use Rattle.base.specs.Lists.{below}
 use Rattle.base.proofs.Bools.{split}
-use Rattle.base.proofs.Lists.{length-count, map-below-more}
+use Rattle.base.proofs.Lists.{map-below-more}
 use Rattle.model.specs.Execution as model
 use Rattle.model.specs.Execution.{kindOf, isStore, roles, operationCount}
 use Rattle.model.proofs.Numbers.{count-more}

@@ -1,14 +1,14 @@
 -- A program, from its count on, and the loop over the processors' programs.
-use Prim.Native.Nat.{ℕ, zero, suc, _+_, _-_, _≤_, _<_}
+use Prim.Native.Nat.{ℕ, suc, _+_, _-_, _≤_, _<_}
 use native.Mathlib.Omega.{arith}
 use native.Mathlib.Numerals.{add-one}
-use mathlib.Core.Path.{_≡_, refl, sym, ap, ap₂, _∙_, subst}
-use mathlib.Core.List.{List, [], _∷_, _++_}
+use mathlib.Core.Path.{_≡_, sym, ap, ap₂, _∙_}
+use mathlib.Core.List.{List, []}
 use lib.ListN.{length, getD, drop, length-drop}
 use lib.Seq.{drop-drop}
 use borrow.Author.Tests.{le-leb, lt-leb}
 use Rattle.model.specs.Execution.{Instruction, operationCount}
-use Rattle.model.specs.Questions.{Found, no-to, found, next, ask, many, question5, question10, question11, readInstruction, readProgram, readPrograms, readInstructions, pure, _>>_}
+use Rattle.model.specs.Questions.{Found, no-to, next, ask, many, question5, question10, question11, readInstruction, readProgram, readPrograms, readInstructions, pure, _>>_}
 use Rattle.decoded.specs.declared.types.Step.{Step}
 use Rattle.decoded.specs.declared.types.Step.the-variants.{Refused, Next}
 use Rattle.decoded.specs.declared.types.Instructions.{Instructions}

@@ -1,7 +1,7 @@
 // The section of programs, one for each processor.
 ghost use mathlib.Core.Path.{_≡_};
-ghost use mathlib.Core.Bool.{Bool, true};
-ghost use mathlib.Core.List.{List, [], _∷_, _++_};
+ghost use mathlib.Core.Bool.{true};
+ghost use mathlib.Core.List.{List, []};
 ghost use Prim.Native.Nat.{ℕ, _+_, _*_, _<_, _≤_};
 ghost use lib.ListN.{length, take, drop};
 ghost use lib.Dec.{eqb};
@@ -10,7 +10,7 @@ ghost use Rattle.model.specs.Execution.{Instruction, operationCount};
 ghost use Rattle.model.specs.Questions.{entryLength, question7, question8, instructionOf, readInstruction, readProgram, readPrograms, readInstructions, many};
 ghost use Rattle.decoded.specs.Kinds.{meant};
 ghost use Rattle.decoded.specs.Decoded.{instructionsOf, Counted};
-ghost use Rattle.decoded.specs.Steps.{Answered, Walked, InstructionsWalked, InstructionMore};
+ghost use Rattle.decoded.specs.Steps.{Answered, InstructionsWalked, InstructionMore};
 use decoded::kind::Kind;
 use decoded::kind::is_fence;
 use decoded::kind::kind_of;

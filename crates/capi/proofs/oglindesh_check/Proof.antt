@@ -5,9 +5,6 @@ use Rattle.format.specs.Readings.{answerMeant}
 use borrow.Author.Needs.{needs}
 use Rattle.capi.proofs.oglindesh_check.Statement.{statement}
 use Rattle.capi.proofs.oglindesh_check.Tie as tie
-use Rattle.capi.proofs.oglindesh_check.Reads as reads
-use Rattle.capi.proofs.oglindesh_check.Lts as lts
-use Rattle.format.proofs.reader.read.Reads as read-reads
 
 read-requires : tie.Need-read-requires
 read-requires c κs = search needs

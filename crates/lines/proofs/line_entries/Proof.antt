@@ -1,7 +1,7 @@
 -- Each turn reads one line more; what is left decides the whole.
-use Prim.Native.Nat.{ℕ, _+_, _-_, _≤_, _<_}
+use Prim.Native.Nat.{_-_}
 use native.Mathlib.Omega.{arith}
-use mathlib.Core.Path.{_≡_, refl, sym, ap, _∙_, subst}
+use mathlib.Core.Path.{_≡_, sym, subst}
 use mathlib.Core.List.{[]}
 use lib.ListN.{drop}
 use Rattle.model.specs.Questions.{readLine, many}
@@ -10,11 +10,6 @@ use Rattle.decoded.proofs.Items.{Going, going-on, going-fails, going-ends, goin
 use borrow.Author.Needs.{needs}
 use Rattle.lines.proofs.line_entries.Statement.{statement}
 use Rattle.lines.proofs.line_entries.Tie as tie
-use Rattle.lines.proofs.line_entries.Reads as reads
-use Rattle.lines.proofs.line_entries.Lts as lts
-use Rattle.lines.proofs.line_question.Reads as line-question-reads
-use Rattle.lines.proofs.no_lines.Reads as no-lines-reads
-use Rattle.lines.proofs.with_line.Reads as with-line-reads
 
 abbrev Inv-loop : tie.InvT-loop
 Inv-loop part n lines₀ at₀ i₀ lines at i = Going (λ done. readLine) (many (λ done. readLine) n [] (drop 1 part)) part n i at (linesOf lines) × (lines .count ≡ i)

@@ -4,8 +4,6 @@ use Rattle.lines.proofs.LineLaws.{line-short, line-unknown, line-passes
 use borrow.Author.Needs.{needs}
 use Rattle.lines.proofs.line_question.Statement.{statement}
 use Rattle.lines.proofs.line_question.Tie as tie
-use Rattle.lines.proofs.line_question.Reads as reads
-use Rattle.lines.proofs.line_question.Lts as lts
 
 sub-if1 : tie.Need-sub-if1
 sub-if1 c = search needs

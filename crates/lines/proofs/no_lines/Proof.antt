@@ -4,8 +4,6 @@ use Rattle.base.specs.Lists.{below, count}
 use Rattle.decoded.specs.Decoded.{linesOf}
 use Rattle.lines.proofs.no_lines.Statement.{statement}
 use Rattle.lines.proofs.no_lines.Tie as tie
-use Rattle.lines.proofs.no_lines.Reads as reads
-use Rattle.lines.proofs.no_lines.Lts as lts
 
 returns : tie.Need-returns
 unfolding linesOf below count

@@ -6,10 +6,6 @@ use Rattle.lines.proofs.LineLaws.{lines-short, lines-refused, lines-cou
 use borrow.Author.Needs.{needs}
 use Rattle.lines.proofs.read_lines.Statement.{statement}
 use Rattle.lines.proofs.read_lines.Tie as tie
-use Rattle.lines.proofs.read_lines.Reads as reads
-use Rattle.lines.proofs.read_lines.Lts as lts
-use Rattle.lines.proofs.line_entries.Reads as line-entries-reads
-use Rattle.lines.proofs.no_lines.Reads as no-lines-reads
 
 no-lines-requires : tie.Need-no-lines-requires
 no-lines-requires c κs = search needs

@@ -6,9 +6,6 @@ use Rattle.lines.proofs.LineLaws.{line-more}
 use borrow.Author.Needs.{needs}
 use Rattle.lines.proofs.with_line.Statement.{statement}
 use Rattle.lines.proofs.with_line.Tie as tie
-use Rattle.lines.proofs.with_line.Reads as reads
-use Rattle.lines.proofs.with_line.Lts as lts
-use Rattle.decoded.proofs.types.copy_eight.Reads as copy-eight-reads
 
 shared-slice-read-attributes : tie.Need-shared-slice-read-attributes
 shared-slice-read-attributes c = search needs

@@ -4,8 +4,6 @@ use Rattle.base.specs.Lists.{below, count}
 use Rattle.decoded.specs.Decoded.{pairsOf}
 use Rattle.pairs.proofs.no_pairs.Statement.{statement}
 use Rattle.pairs.proofs.no_pairs.Tie as tie
-use Rattle.pairs.proofs.no_pairs.Reads as reads
-use Rattle.pairs.proofs.no_pairs.Lts as lts
 
 returns : tie.Need-returns
 unfolding pairsOf below count

@@ -1,15 +1,10 @@
 -- The last pair decides; with none, any pair passes.
-use native.Mathlib.Omega.{arith}
-use mathlib.Core.Path.{refl, sym, _∙_}
-use mathlib.Core.Bool.{Bool, true, false, _&&_, _||_}
+use mathlib.Core.Path.{sym, _∙_}
 use borrow.Author.Tests.{lt-ltb, le-ltb, eq-eqb, ne-eqb}
 use Rattle.pairs.proofs.PairLaws.{pair-alone, pair-after}
 use borrow.Author.Needs.{needs}
 use Rattle.pairs.proofs.pair_above.Statement.{statement}
 use Rattle.pairs.proofs.pair_above.Tie as tie
-use Rattle.pairs.proofs.pair_above.Reads as reads
-use Rattle.pairs.proofs.pair_above.Lts as lts
-use Rattle.decoded.proofs.types.wide.Reads as wide-reads
 
 returns : tie.Need-returns
 returns c = pair-alone (c .before .args .x) (c .before .args .earlier .0) (c .before .args .later .0) (c .if1 .taken)

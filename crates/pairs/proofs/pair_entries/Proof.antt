@@ -1,5 +1,5 @@
 -- Each turn reads one pair more; what is left decides the whole.
-use Prim.Native.Nat.{_+_, _-_, _≤_, _<_}
+use Prim.Native.Nat.{_-_}
 use native.Mathlib.Omega.{arith}
 use mathlib.Core.Path.{_≡_, sym, subst}
 use mathlib.Core.List.{[]}
@@ -10,11 +10,6 @@ use Rattle.decoded.proofs.Items.{Going, going-on, going-fails, going-ends, goin
 use borrow.Author.Needs.{needs}
 use Rattle.pairs.proofs.pair_entries.Statement.{statement}
 use Rattle.pairs.proofs.pair_entries.Tie as tie
-use Rattle.pairs.proofs.pair_entries.Reads as reads
-use Rattle.pairs.proofs.pair_entries.Lts as lts
-use Rattle.pairs.proofs.no_pairs.Reads as no-pairs-reads
-use Rattle.pairs.proofs.pair_question.Reads as pair-question-reads
-use Rattle.pairs.proofs.with_pair.Reads as with-pair-reads
 
 abbrev Inv-loop : tie.InvT-loop
 Inv-loop part n is pairs₀ at₀ i₀ pairs at i =

@@ -1,19 +1,13 @@
 -- The tests of question 13, one after the other.
-use mathlib.Core.Path.{refl, sym, ap, _∙_}
-use mathlib.Core.Bool.{Bool, true, false, not, _&&_, and-false}
-use borrow.Author.Tests.{eq-eqb, ne-eqb, not-true}
-use Rattle.model.specs.Execution.{kindOf, isFence, isStore}
+use mathlib.Core.Path.{refl, sym, _∙_}
+use borrow.Author.Tests.{eq-eqb, ne-eqb}
+use Rattle.model.specs.Execution.{kindOf}
 use lib.ListN.{getD}
 use Rattle.decoded.specs.Kinds.{meant}
 use Rattle.pairs.proofs.PairLaws.{pair-turned, pair-past, pair-is}
 use borrow.Author.Needs.{needs}
 use Rattle.pairs.proofs.pair_passes.Statement.{statement}
 use Rattle.pairs.proofs.pair_passes.Tie as tie
-use Rattle.pairs.proofs.pair_passes.Reads as reads
-use Rattle.pairs.proofs.pair_passes.Lts as lts
-use Rattle.decoded.proofs.kind.is_fence.Reads as is-fence-reads
-use Rattle.decoded.proofs.kind.is_store.Reads as is-store-reads
-use Rattle.decoded.proofs.kind.kind_of.Reads as kind-of-reads
 
 returns : tie.Need-returns
 returns c =

@@ -7,11 +7,6 @@ use Rattle.pairs.proofs.PairLaws.{pair-short, pair-refused, pair-low, p
 use borrow.Author.Needs.{needs}
 use Rattle.pairs.proofs.pair_question.Statement.{statement}
 use Rattle.pairs.proofs.pair_question.Tie as tie
-use Rattle.pairs.proofs.pair_question.Reads as reads
-use Rattle.pairs.proofs.pair_question.Lts as lts
-use Rattle.decoded.proofs.types.wide.Reads as wide-reads
-use Rattle.pairs.proofs.pair_above.Reads as pair-above-reads
-use Rattle.pairs.proofs.pair_passes.Reads as pair-passes-reads
 
 sub-if1 : tie.Need-sub-if1
 sub-if1 c = search needs

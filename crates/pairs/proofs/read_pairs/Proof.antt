@@ -6,10 +6,6 @@ use Rattle.pairs.proofs.PairLaws.{pairs-short, pairs-many, pairs-counte
 use borrow.Author.Needs.{needs}
 use Rattle.pairs.proofs.read_pairs.Statement.{statement}
 use Rattle.pairs.proofs.read_pairs.Tie as tie
-use Rattle.pairs.proofs.read_pairs.Reads as reads
-use Rattle.pairs.proofs.read_pairs.Lts as lts
-use Rattle.pairs.proofs.no_pairs.Reads as no-pairs-reads
-use Rattle.pairs.proofs.pair_entries.Reads as pair-entries-reads
 
 no-pairs-requires : tie.Need-no-pairs-requires
 no-pairs-requires c κs = search needs

@@ -6,8 +6,6 @@ use Rattle.pairs.proofs.PairLaws.{pair-more}
 use borrow.Author.Needs.{needs}
 use Rattle.pairs.proofs.with_pair.Statement.{statement}
 use Rattle.pairs.proofs.with_pair.Tie as tie
-use Rattle.pairs.proofs.with_pair.Reads as reads
-use Rattle.pairs.proofs.with_pair.Lts as lts
 
 shared-slice-read-earlier : tie.Need-shared-slice-read-earlier
 shared-slice-read-earlier c = search needs

@@ -1,13 +1,10 @@
 -- An mf has address 0; an access is aligned and ends within the lines.
-use mathlib.Core.Path.{refl, sym, _∙_}
+use mathlib.Core.Path.{sym, _∙_}
 use Rattle.decoded.specs.Kinds.{meant}
 use Rattle.programs.proofs.EntryLaws.{fence-address, address-off, address-on, size-positive}
 use borrow.Author.Needs.{needs}
 use Rattle.programs.proofs.address_passes.Statement.{statement}
 use Rattle.programs.proofs.address_passes.Tie as tie
-use Rattle.programs.proofs.address_passes.Reads as reads
-use Rattle.programs.proofs.address_passes.Lts as lts
-use Rattle.decoded.proofs.kind.is_fence.Reads as is-fence-reads
 
 is-fence-requires : tie.Need-is-fence-requires
 is-fence-requires c κs = search needs

@@ -10,8 +10,6 @@ use Rattle.programs.proofs.EntryLaws.{zeros-by-index}
 use borrow.Author.Needs.{needs}
 use Rattle.programs.proofs.all_zero.Statement.{statement}
 use Rattle.programs.proofs.all_zero.Tie as tie
-use Rattle.programs.proofs.all_zero.Reads as reads
-use Rattle.programs.proofs.all_zero.Lts as lts
 
 abbrev Inv-loop : tie.InvT-loop
 Inv-loop part from n i₀ i = Passed n (λ k. eqb 0 (getD part (from + k) 0)) i

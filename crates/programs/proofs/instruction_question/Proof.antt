@@ -9,12 +9,6 @@ use Rattle.programs.proofs.EntryLaws.{size-small, entry-short, entry-ki
 use borrow.Author.Needs.{needs}
 use Rattle.programs.proofs.instruction_question.Statement.{statement}
 use Rattle.programs.proofs.instruction_question.Tie as tie
-use Rattle.programs.proofs.instruction_question.Reads as reads
-use Rattle.programs.proofs.instruction_question.Lts as lts
-use Rattle.decoded.proofs.kind.kind_of.Reads as kind-of-reads
-use Rattle.programs.proofs.address_passes.Reads as address-passes-reads
-use Rattle.programs.proofs.all_zero.Reads as all-zero-reads
-use Rattle.programs.proofs.size_passes.Reads as size-passes-reads
 
 sub-if1 : tie.Need-sub-if1
 sub-if1 c = search needs

@@ -4,8 +4,6 @@ use Rattle.base.specs.Lists.{below, count}
 use Rattle.decoded.specs.Decoded.{instructionsOf}
 use Rattle.programs.proofs.no_instructions.Statement.{statement}
 use Rattle.programs.proofs.no_instructions.Tie as tie
-use Rattle.programs.proofs.no_instructions.Reads as reads
-use Rattle.programs.proofs.no_instructions.Lts as lts
 
 returns : tie.Need-returns
 unfolding instructionsOf below count

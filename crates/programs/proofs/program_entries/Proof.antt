@@ -1,7 +1,7 @@
 -- Each turn reads one instruction more; what is left decides the whole.
-use Prim.Native.Nat.{ℕ, _+_, _-_, _≤_, _<_}
+use Prim.Native.Nat.{_+_, _-_}
 use native.Mathlib.Omega.{arith}
-use mathlib.Core.Path.{_≡_, refl, sym, ap, _∙_, subst}
+use mathlib.Core.Path.{_≡_, refl, sym, subst}
 use lib.ListN.{drop}
 use Rattle.model.specs.Questions.{readInstruction, many}
 use Rattle.decoded.specs.Decoded.{instructionsOf, Counted}
@@ -9,10 +9,6 @@ use Rattle.decoded.proofs.Items.{Going, going-on, going-fails, going-ends, goin
 use borrow.Author.Needs.{needs}
 use Rattle.programs.proofs.program_entries.Statement.{statement}
 use Rattle.programs.proofs.program_entries.Tie as tie
-use Rattle.programs.proofs.program_entries.Reads as reads
-use Rattle.programs.proofs.program_entries.Lts as lts
-use Rattle.programs.proofs.instruction_question.Reads as instruction-question-reads
-use Rattle.programs.proofs.with_instruction.Reads as with-instruction-reads
 
 abbrev Inv-loop : tie.InvT-loop
 Inv-loop part n lines processors p instructions₀ at₀ i₀ instructions at i =

@@ -6,9 +6,6 @@ use Rattle.programs.proofs.ProgramLaws.{instructions-fail, instructions
 use borrow.Author.Needs.{needs}
 use Rattle.programs.proofs.read_instructions.Statement.{statement}
 use Rattle.programs.proofs.read_instructions.Tie as tie
-use Rattle.programs.proofs.read_instructions.Reads as reads
-use Rattle.programs.proofs.read_instructions.Lts as lts
-use Rattle.programs.proofs.read_programs.Reads as read-programs-reads
 
 read-programs-requires : tie.Need-read-programs-requires
 read-programs-requires c κs = search needs

@@ -7,10 +7,6 @@ use Rattle.programs.proofs.ProgramLaws.{program-short, program-many, pr
 use borrow.Author.Needs.{needs}
 use Rattle.programs.proofs.read_program.Statement.{statement}
 use Rattle.programs.proofs.read_program.Tie as tie
-use Rattle.programs.proofs.read_program.Reads as reads
-use Rattle.programs.proofs.read_program.Lts as lts
-use Rattle.decoded.proofs.types.wide.Reads as wide-reads
-use Rattle.programs.proofs.program_entries.Reads as program-entries-reads
 
 returns : tie.Need-returns
 returns c =

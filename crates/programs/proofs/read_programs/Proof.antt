@@ -1,5 +1,5 @@
 -- Each turn reads one program more; what is left decides the whole.
-use Prim.Native.Nat.{_+_, _-_, _≤_, _<_}
+use Prim.Native.Nat.{_-_}
 use native.Mathlib.Omega.{arith}
 use mathlib.Core.Path.{ap}
 use lib.ListN.{length, length-drop}
@@ -10,10 +10,6 @@ use Rattle.programs.proofs.ProgramLaws.{counted-none, Programs, program
 use borrow.Author.Needs.{needs}
 use Rattle.programs.proofs.read_programs.Statement.{statement}
 use Rattle.programs.proofs.read_programs.Tie as tie
-use Rattle.programs.proofs.read_programs.Reads as reads
-use Rattle.programs.proofs.read_programs.Lts as lts
-use Rattle.programs.proofs.no_instructions.Reads as no-instructions-reads
-use Rattle.programs.proofs.read_program.Reads as read-program-reads
 
 abbrev Inv-loop : tie.InvT-loop
 Inv-loop part lines processors instructions₀ at₀ p₀ instructions at p = Programs processors lines part p at (instructionsOf instructions) × Counted processors instructions

@@ -6,9 +6,6 @@ use Rattle.programs.proofs.EntryLaws.{fence-size, size-known, size-unkn
 use borrow.Author.Needs.{needs}
 use Rattle.programs.proofs.size_passes.Statement.{statement}
 use Rattle.programs.proofs.size_passes.Tie as tie
-use Rattle.programs.proofs.size_passes.Reads as reads
-use Rattle.programs.proofs.size_passes.Lts as lts
-use Rattle.decoded.proofs.kind.is_fence.Reads as is-fence-reads
 
 is-fence-requires : tie.Need-is-fence-requires
 is-fence-requires c κs = search needs

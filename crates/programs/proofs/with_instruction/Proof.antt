@@ -1,20 +1,14 @@
 -- The instruction's bytes go to the next place of each array: one instruction more.
 use native.Mathlib.Omega.{arith}
-use mathlib.Core.Path.{_≡_, refl, sym, ap, _∙_}
-use Prim.Native.Nat.{ℕ, _+_, _≤_}
+use mathlib.Core.Path.{_≡_, ap, _∙_}
+use Prim.Native.Nat.{ℕ, _+_}
 use lib.ListN.{length, getD}
 use Rattle.model.specs.Execution.{Kind, kindOf, roles}
-use Rattle.decoded.specs.declared.types.Instructions.{Instructions}
 use Rattle.decoded.specs.Kinds.{meant}
 use Rattle.programs.proofs.InstructionLaws.{Sized, few-roles, instruction-more}
 use borrow.Author.Needs.{needs}
 use Rattle.programs.proofs.with_instruction.Statement.{statement}
 use Rattle.programs.proofs.with_instruction.Tie as tie
-use Rattle.programs.proofs.with_instruction.Reads as reads
-use Rattle.programs.proofs.with_instruction.Lts as lts
-use Rattle.decoded.proofs.types.copy_eight.Reads as copy-eight-reads
-use Rattle.decoded.proofs.kind.kind_of.Reads as kind-of-reads
-use Rattle.decoded.proofs.kind.operation_count.Reads as operation-count-reads
 
 shared-slice-read-kind-of : tie.Need-shared-slice-read-kind-of
 shared-slice-read-kind-of c = search needs

@@ -7,8 +7,6 @@ use Rattle.model.specs.Execution.{WB, UC, WC}
 use borrow.Author.Needs.{needs}
 use Rattle.decoded.proofs.kind.attribute_of.Statement.{statement}
 use Rattle.decoded.proofs.kind.attribute_of.Tie as tie
-use Rattle.decoded.proofs.kind.attribute_of.Reads as reads
-use Rattle.decoded.proofs.kind.attribute_of.Lts as lts
 
 returns : tie.Need-returns
 returns c = search needs

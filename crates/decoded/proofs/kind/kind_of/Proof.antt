@@ -7,8 +7,6 @@ use Rattle.model.specs.Execution.{ld, ld-acq, st, st-rel, mf}
 use borrow.Author.Needs.{needs}
 use Rattle.decoded.proofs.kind.kind_of.Statement.{statement}
 use Rattle.decoded.proofs.kind.kind_of.Tie as tie
-use Rattle.decoded.proofs.kind.kind_of.Reads as reads
-use Rattle.decoded.proofs.kind.kind_of.Lts as lts
 
 returns : tie.Need-returns
 returns c = search needs

@@ -5,9 +5,6 @@ use Rattle.decoded.proofs.Counts.{store-operations, other-operations}
 use borrow.Author.Needs.{needs}
 use Rattle.decoded.proofs.kind.operation_count.Statement.{statement}
 use Rattle.decoded.proofs.kind.operation_count.Tie as tie
-use Rattle.decoded.proofs.kind.operation_count.Reads as reads
-use Rattle.decoded.proofs.kind.operation_count.Lts as lts
-use Rattle.decoded.proofs.kind.is_store.Reads as is-store-reads
 
 is-store-requires : tie.Need-is-store-requires
 is-store-requires c κs = search needs

@@ -6,10 +6,6 @@ use Rattle.decoded.proofs.Counts.{store-first, store-later, load-only, 
 use borrow.Author.Needs.{needs}
 use Rattle.decoded.proofs.kind.role_of.Statement.{statement}
 use Rattle.decoded.proofs.kind.role_of.Tie as tie
-use Rattle.decoded.proofs.kind.role_of.Reads as reads
-use Rattle.decoded.proofs.kind.role_of.Lts as lts
-use Rattle.decoded.proofs.kind.is_load.Reads as is-load-reads
-use Rattle.decoded.proofs.kind.is_store.Reads as is-store-reads
 
 is-store-requires : tie.Need-is-store-requires
 is-store-requires c κs = search needs

@@ -1,15 +1,13 @@
 -- The loop pastes the first j of the eight bytes; after eight turns, all of them.
 use Prim.Native.Nat.{ℕ, _+_, _-_, _≤_}
 use native.Mathlib.Omega.{arith}
-use mathlib.Core.Path.{_≡_, refl, sym, ap, _∙_, subst}
-use lib.ListN.{length, drop, length-drop, getD, set}
-use lib.Seq.{getD-drop, paste}
+use mathlib.Core.Path.{subst}
+use lib.ListN.{drop, length-drop, set}
+use lib.Seq.{getD-drop}
 use borrow.Author.Needs.{needs}
 use Rattle.base.proofs.Copies.{Pasted, none-yet, one-more, copied}
 use Rattle.decoded.proofs.types.copy_eight.Statement.{statement}
 use Rattle.decoded.proofs.types.copy_eight.Tie as tie
-use Rattle.decoded.proofs.types.copy_eight.Reads as reads
-use Rattle.decoded.proofs.types.copy_eight.Lts as lts
 
 abbrev Inv-loop : tie.InvT-loop
 Inv-loop to₀ at from start j₀ to j = (j ≤ 8) × Pasted to₀ at (drop start from) j to

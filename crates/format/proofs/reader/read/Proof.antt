@@ -1,9 +1,9 @@
 -- The count of processors and its question, the lines, then what follows them.
-use Prim.Native.Nat.{ℕ, _+_, _-_, _≤_}
+use Prim.Native.Nat.{ℕ, _+_, _≤_}
 use native.Mathlib.Omega.{arith}
-use mathlib.Core.Path.{_≡_, refl, sym, ap, ap₂, _∙_}
+use mathlib.Core.Path.{sym, ap, ap₂, _∙_}
 use mathlib.Core.List.{List}
-use lib.ListN.{length, getD, take, drop, length-drop}
+use lib.ListN.{length, drop, length-drop}
 use lib.Seq.{drop-drop}
 use Rattle.base.proofs.Copies.{rest}
 use Rattle.model.specs.Calls.{answerOf}
@@ -13,12 +13,6 @@ use Rattle.format.proofs.ReadingLaws.{record-short, record-few, record-
 use borrow.Author.Needs.{needs}
 use Rattle.format.proofs.reader.read.Statement.{statement}
 use Rattle.format.proofs.reader.read.Tie as tie
-use Rattle.format.proofs.reader.read.Reads as reads
-use Rattle.format.proofs.reader.read.Lts as lts
-use Rattle.decoded.proofs.types.wide.Reads as wide-reads
-use Rattle.lines.proofs.read_lines.Reads as read-lines-reads
-use Rattle.format.proofs.reader.read_rest.Reads as read-rest-reads
-use Rattle.format.proofs.reader.refused.Reads as refused-reads
 
 refused-requires : tie.Need-refused-requires
 refused-requires c κs = search needs

@@ -1,14 +1,10 @@
 -- The pairs, then question 15.
-use mathlib.Core.Path.{refl, _∙_}
+use mathlib.Core.Path.{_∙_}
 use Rattle.decoded.specs.Decoded.{linesOf, instructionsOf, executionOf}
 use Rattle.format.proofs.ReadingLaws.{end-fails, end-more, end-here}
 use borrow.Author.Needs.{needs}
 use Rattle.format.proofs.reader.read_end.Statement.{statement}
 use Rattle.format.proofs.reader.read_end.Tie as tie
-use Rattle.format.proofs.reader.read_end.Reads as reads
-use Rattle.format.proofs.reader.read_end.Lts as lts
-use Rattle.pairs.proofs.read_pairs.Reads as read-pairs-reads
-use Rattle.format.proofs.reader.refused.Reads as refused-reads
 
 read-pairs-requires : tie.Need-read-pairs-requires
 read-pairs-requires c κs = search needs

@@ -1,6 +1,5 @@
 -- The programs, then what follows them.
-use native.Mathlib.Omega.{arith}
-use mathlib.Core.Path.{refl, sym, ap, _∙_}
+use mathlib.Core.Path.{sym, ap, _∙_}
 use Rattle.decoded.proofs.Arrays.{lines-length}
 use Rattle.base.proofs.Copies.{rest}
 use Rattle.model.specs.Calls.{answerOf}
@@ -10,11 +9,6 @@ use Rattle.format.proofs.ReadingLaws.{rest-fails, rest-read}
 use borrow.Author.Needs.{needs}
 use Rattle.format.proofs.reader.read_rest.Statement.{statement}
 use Rattle.format.proofs.reader.read_rest.Tie as tie
-use Rattle.format.proofs.reader.read_rest.Reads as reads
-use Rattle.format.proofs.reader.read_rest.Lts as lts
-use Rattle.programs.proofs.read_instructions.Reads as read-instructions-reads
-use Rattle.format.proofs.reader.read_end.Reads as read-end-reads
-use Rattle.format.proofs.reader.refused.Reads as refused-reads
 
 read-instructions-requires : tie.Need-read-instructions-requires
 read-instructions-requires c κs = search needs

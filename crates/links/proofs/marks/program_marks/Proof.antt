@@ -4,8 +4,6 @@ use Rattle.links.proofs.MarkLaws.{program-order}
 use borrow.Author.Needs.{needs}
 use Rattle.links.proofs.marks.program_marks.Statement.{statement}
 use Rattle.links.proofs.marks.program_marks.Tie as tie
-use Rattle.links.proofs.marks.program_marks.Reads as reads
-use Rattle.links.proofs.marks.program_marks.Lts as lts
 
 mul-result : tie.Need-mul-result
 mul-result c = search needs

@@ -5,10 +5,6 @@ use Rattle.links.proofs.MarkLaws.{shares-meet}
 use borrow.Author.Needs.{needs}
 use Rattle.links.proofs.marks.shares_byte.Statement.{statement}
 use Rattle.links.proofs.marks.shares_byte.Tie as tie
-use Rattle.links.proofs.marks.shares_byte.Reads as reads
-use Rattle.links.proofs.marks.shares_byte.Lts as lts
-use Rattle.links.proofs.marks.larger.Reads as larger-reads
-use Rattle.links.proofs.marks.smaller.Reads as smaller-reads
 
 larger-requires : tie.Need-larger-requires
 larger-requires c κs = search needs

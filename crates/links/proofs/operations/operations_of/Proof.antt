@@ -1,5 +1,5 @@
 -- Each turn adds the operations of one instruction more.
-use Prim.Native.Nat.{ℕ, _+_, _-_, _≤_, _<_}
+use Prim.Native.Nat.{_-_, _≤_}
 use native.Mathlib.Omega.{arith}
 use mathlib.Core.Path.{refl}
 use lib.ListN.{take}
@@ -11,9 +11,6 @@ use Rattle.links.proofs.OperationLaws.{next-first, next-fits, next-tabl
 use borrow.Author.Needs.{needs}
 use Rattle.links.proofs.operations.operations_of.Statement.{statement}
 use Rattle.links.proofs.operations.operations_of.Tie as tie
-use Rattle.links.proofs.operations.operations_of.Reads as reads
-use Rattle.links.proofs.operations.operations_of.Lts as lts
-use Rattle.links.proofs.operations.with_operations.Reads as with-operations-reads
 
 abbrev Inv-loop : tie.InvT-loop
 Inv-loop is processors n table₀ i₀ table i =

@@ -1,7 +1,7 @@
 -- Each turn fills one operation; after all, the table holds the instruction's operations behind those before it.
-use Prim.Native.Nat.{ℕ, _+_, _-_, _≤_, _<_}
+use Prim.Native.Nat.{ℕ, _+_, _-_, _≤_}
 use native.Mathlib.Omega.{arith}
-use mathlib.Core.Path.{_≡_, refl, sym, ap, _∙_, subst}
+use mathlib.Core.Path.{_≡_, ap, _∙_, subst}
 use lib.ListN.{length, getD}
 use Rattle.model.specs.Execution.{Kind, kindOf, roles}
 use Rattle.decoded.specs.Kinds.{meant}
@@ -9,11 +9,6 @@ use Rattle.links.proofs.OperationLaws.{Filled, filled-none, filled-more
 use borrow.Author.Needs.{needs}
 use Rattle.links.proofs.operations.with_operations.Statement.{statement}
 use Rattle.links.proofs.operations.with_operations.Tie as tie
-use Rattle.links.proofs.operations.with_operations.Reads as reads
-use Rattle.links.proofs.operations.with_operations.Lts as lts
-use Rattle.decoded.proofs.kind.kind_of.Reads as kind-of-reads
-use Rattle.decoded.proofs.kind.operation_count.Reads as operation-count-reads
-use Rattle.decoded.proofs.kind.role_of.Reads as role-of-reads
 
 abbrev Inv-loop : tie.InvT-loop
 Inv-loop processors number kind n start owners₀ roles₀ place₀ owners roles place = (place ≤ n) × Filled owners₀ roles₀ start number (meant kind) place owners roles
