@@ -91,7 +91,7 @@ module _ {A : Type 0} where
   each-at P (x ∷ xs) d zero h l = h .0
   each-at P (x ∷ xs) d (suc i) h l = each-at P xs d i (h .1) (omega arith)
 
-size-small : (k : Kind) (size : ℕ) → question7 k size ≡ true → size ≤ 8
+pub size-small : (k : Kind) (size : ℕ) → question7 k size ≡ true → size ≤ 8
 unfolding question7 all
 size-small k size q = leb-true size 8 (split (isFence k)
     (λ h. all-member (λ n. leb n 8) (member-in (0 ∷ []) size (rw h at q)) refl)

@@ -7,13 +7,14 @@ use mathlib.Core.List.{List, [], _∷_}
 use lib.ListN.{length, getD, take, drop, length-drop}
 use lib.Seq.{length-take-le, drop-drop}
 use lib.Dec.{eqb, leb, ltb}
-use borrow.Author.Tests.{le-leb, lt-leb, leb-true, ltb-true, eq-eqb, ne-eqb}
+use borrow.Author.Tests.{le-leb, lt-leb, ltb-true, eq-eqb, ne-eqb}
 use Rattle.base.specs.Lists.{all, member}
 use Rattle.base.specs.Below.{allBelow}
-use Rattle.base.proofs.Bools.{split, eqb-swap}
+use Rattle.base.proofs.Bools.{eqb-swap}
 use Rattle.base.proofs.Lists.{member-in, all-member}
 use Rattle.base.proofs.Tests.{all-same, all-elements}
 use Rattle.model.specs.Execution.{Kind, Instruction, kindOf, isFence}
+use Rattle.model.proofs.Accepted.{size-small}
 use Rattle.model.specs.Questions.{question6, question7, question8, question9, instructionOf, readInstruction, next, ask}
 use Rattle.decoded.specs.declared.types.Asked.{Asked}
 use Rattle.decoded.specs.declared.types.Asked.the-variants.{Pass, Fail}
@@ -48,12 +49,6 @@ module _ (k : Kind) (size : ℕ) where
   pub size-positive : isFence k ≡ false → question7 k size ≡ true → 0 < size
   unfolding question7 all
   size-positive h q = ltb-true 0 size (all-member (λ n. ltb 0 n) (member-in sizes size (rw h at q)) refl)
-
-  pub size-small : question7 k size ≡ true → size ≤ 8
-  unfolding question7 all
-  size-small q = leb-true size 8 (split (isFence k)
-      (λ h. all-member (λ n. leb n 8) (member-in (0 ∷ []) size (rw h at q)) refl)
-      (λ h. all-member (λ n. leb n 8) (member-in sizes size (rw h at q)) refl))
 
   -- question 8
   module _ (lines address : ℕ) where

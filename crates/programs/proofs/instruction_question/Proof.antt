@@ -5,7 +5,8 @@ use Prim.Native.Nat.{_+_, _≤_}
 use lib.ListN.{getD}
 use borrow.Author.Tests.{not-true, not-false}
 use Rattle.decoded.specs.Kinds.{meant}
-use Rattle.programs.proofs.EntryLaws.{size-small, entry-short, entry-kind, entry-size, entry-address, entry-data, entry-passes}
+use Rattle.model.proofs.Accepted.{size-small}
+use Rattle.programs.proofs.EntryLaws.{entry-short, entry-kind, entry-size, entry-address, entry-data, entry-passes}
 use borrow.Author.Needs.{needs}
 use Rattle.programs.proofs.instruction_question.Statement.{statement}
 use Rattle.programs.proofs.instruction_question.Tie as tie
