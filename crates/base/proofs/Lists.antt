@@ -3,14 +3,14 @@ use Prim.Native.Nat.{ℕ, zero, suc, _+_, _≤_, _<_}
 use native.Mathlib.Omega.{arith}
 use native.Mathlib.Decide.{ℕ-discrete}
 use mathlib.Core.Path.{_≡_, refl, sym, ap, ap₂, _∙_, subst}
-use mathlib.Core.Bool.{Bool, true, false, not, cond, _&&_, _||_, and-true, and-assoc, or-false, or-assoc, false≢true}
+use mathlib.Core.Bool.{Bool, true, false, not, cond, _&&_, _||_, and-true, and-false, and-assoc, or-true, or-false, or-assoc, false≢true}
 use mathlib.Core.List.{List, [], _∷_, _++_, append-nil, append-assoc, map, map-append, List·Memᴰ, List·Memᴰ·head, List·Memᴰ·tail, List·Memᴰ·not-nil, List·Memᴰ·append-cases, Memᴰ·append-left, Memᴰ·append-right}
 use mathlib.Core.Logic.{_⊎_, inl, inr}
 use lib.Dec.{eqb, ltb}
 use lib.ListN.{length, getD}
 use lib.Seq.{append-snoc}
 use borrow.Author.Tests.{eq-eqb, eqb-true, ltb-true}
-use Rattle.base.specs.Lists.{all, any, keep, for, count, below, member, distinct}
+use Rattle.base.specs.Lists.{all, any, keep, when, for, count, below, member, distinct}
 use Rattle.base.proofs.Bools.{and-parts}
 
 module _ {A : Type 0} where
@@ -55,6 +55,48 @@ module _ {A : Type 0} where
   unfolding any
   any-append p [] m = refl
   any-append p (a ∷ l) m = rw (any-append p l m) (sym (or-assoc (p a) (any p l) (any p m)))
+
+  pub any-when : (p : A → Bool) (b : Bool) (l : List A) → any p (when b l) ≡ (b && any p l)
+  unfolding any when
+  any-when p true l = refl
+  any-when p false l = refl
+
+  pub any-one : (p : A → Bool) (a : A) → any p (a ∷ []) ≡ p a
+  unfolding any
+  any-one p a = or-false (p a)
+
+  pub any-none : (l : List A) → any (λ a. false) l ≡ false
+  unfolding any
+  any-none [] = refl
+  any-none (a ∷ l) = any-none l
+
+  pub any-or : (p q : A → Bool) (l : List A) → any (λ a. p a || q a) l ≡ (any p l || any q l)
+  unfolding any
+  any-or p q [] = refl
+  any-or p q (a ∷ l) = rw (any-or p q l) (mix (p a) (q a) (any p l) (any q l))
+    where
+      mix : (a b c d : Bool) → ((a || b) || (c || d)) ≡ ((a || c) || (b || d))
+      mix true b c d = refl
+      mix false true c d = sym (or-true c)
+      mix false false c d = refl
+
+  -- a test that does not depend on the element stands before or after
+  pub any-and : (b : Bool) (p : A → Bool) (l : List A) → any (λ a. b && p a) l ≡ (b && any p l)
+  any-and true p l = refl
+  any-and false p l = any-none l
+
+  pub any-and-after : (p : A → Bool) (b : Bool) (l : List A) → any (λ a. p a && b) l ≡ (any p l && b)
+  any-and-after p true l = any-same (λ a. p a && true) p l (λ a m. and-true (p a)) ∙ sym (and-true (any p l))
+  any-and-after p false l = any-same (λ a. p a && false) (λ a. false) l (λ a m. and-false (p a)) ∙ any-none l ∙ sym (and-false (any p l))
+
+  pub any-keep : (p q : A → Bool) (l : List A) → any p (keep q l) ≡ any (λ a. q a && p a) l
+  unfolding any keep
+  any-keep p q [] = refl
+  any-keep p q (a ∷ l) = go (q a) (any-keep p q l)
+    where
+      go : (b : Bool) → any p (keep q l) ≡ any (λ a. q a && p a) l → any p (cond b (a ∷ keep q l) (keep q l)) ≡ ((b && p a) || any (λ a. q a && p a) l)
+      go true h = ap (λ (t : Bool). p a || t) h
+      go false h = h
 
   pub all-append : (p : A → Bool) (l m : List A) → all p (l ++ m) ≡ (all p l && all p m)
   unfolding all
@@ -126,6 +168,12 @@ module _ {A : Type 0} where
       go true h = omega arith
       go false h = omega arith
 
+  -- an element that is there does not depend on what stands for one that is not
+  pub getD-there : (l : List A) (i : ℕ) (d e : A) → i < length l → getD l i d ≡ getD l i e
+  getD-there [] i d e h = absurd (omega arith)
+  getD-there (a ∷ l) zero d e h = refl
+  getD-there (a ∷ l) (suc i) d e h = getD-there l i d e (omega arith)
+
 module _ {A B : Type 0} where
   pub of-for : (f : A → List B) {z : B} (l : List A) → List·Memᴰ z (for l f) → (a : A) × List·Memᴰ a l × List·Memᴰ z (f a)
   unfolding for
@@ -155,6 +203,17 @@ module _ {A B : Type 0} where
   unfolding any for
   any-for p [] f = refl
   any-for p (a ∷ l) f = any-append p (f a) (for l f) ∙ ap (λ (t : Bool). any p (f a) || t) (any-for p l f)
+
+  pub any-map : (p : B → Bool) (f : A → B) (l : List A) → any p (map f l) ≡ any (λ a. p (f a)) l
+  unfolding any
+  any-map p f [] = refl
+  any-map p f (a ∷ l) = rw (any-map p f l)
+
+  -- the order of two lists does not matter
+  pub any-swap : (r : A → B → Bool) (l : List A) (m : List B) → any (λ a. any (r a) m) l ≡ any (λ b. any (λ a. r a b) l) m
+  unfolding any
+  any-swap r [] m = sym (any-none m)
+  any-swap r (a ∷ l) m = rw (any-swap r l m) (sym (any-or (r a) (λ b. any (λ a. r a b) l) m))
 
   pub map-same : (f g : A → B) (l : List A) → ((a : A) → List·Memᴰ a l → f a ≡ g a) → map f l ≡ map g l
   map-same f g [] h = refl
@@ -290,3 +349,11 @@ pub distinct-length : (n : ℕ) (xs : List ℕ) → distinct n [] xs ≡ true �
 unfolding free below
 distinct-length n xs h =
     omega (arith, distinct-free n [] xs h, keep-length (λ a. not (member [] a)) (count 0 n), length-count 0 n)
+
+-- different numbers: so are the first k
+pub distinct-first : (n : ℕ) (passed xs ys : List ℕ) → distinct n passed (xs ++ ys) ≡ true → distinct n passed xs ≡ true
+unfolding distinct
+distinct-first n passed [] ys h = refl
+distinct-first n passed (x ∷ xs) ys h =
+    let (h1, h2) = and-parts (ltb x n && not (member passed x)) (distinct n (passed ++ (x ∷ [])) (xs ++ ys)) h in
+    rw h1 (distinct-first n (passed ++ (x ∷ [])) xs ys h2)

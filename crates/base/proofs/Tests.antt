@@ -3,15 +3,16 @@ use Prim.Native.Nat.{ℕ, zero, suc, _+_, _<_, _≤_}
 use native.Mathlib.Nat.{le-antisymm, not-suc-le-zero, le-of-suc-le-suc, eq-or-lt-of-le}
 use native.Mathlib.Numerals.{add-one}
 use native.Mathlib.Omega.{arith}
-use mathlib.Core.Path.{_≡_, refl, sym, ap, _∙_}
-use mathlib.Core.Bool.{Bool, true, false, not, _&&_, _||_, and-false, and-assoc, and-true}
-use mathlib.Core.List.{List, [], _∷_}
+use mathlib.Core.Path.{_≡_, refl, sym, ap, ap₂, _∙_}
+use mathlib.Core.Bool.{Bool, true, false, not, _&&_, _||_, and-false, and-assoc, and-true, or-true, or-false}
+use mathlib.Core.List.{List, [], _∷_, map}
 use mathlib.Core.Logic.{⊎-elim}
 use lib.ListN.{length, getD}
 use borrow.Author.Tests.{not-true, not-false}
-use Rattle.base.specs.Lists.{all}
+use Rattle.base.specs.Lists.{all, any, count, below}
 use Rattle.base.specs.Below.{allBelow, anyBelow}
 use Rattle.base.proofs.Bools.{and-parts}
+use Rattle.base.proofs.Lists.{any-append, any-map, below-more}
 
 module _ (p : ℕ → Bool) where
   -- one test that fails decides
@@ -80,3 +81,54 @@ module _ {n i : ℕ} {p : ℕ → Bool} (inv : Passed n p i) where
   -- the end of the loop
   pub ends : n ≤ i → true ≡ allBelow n p
   ends b = sym (ap (λ (k : ℕ). allBelow k p) (le-antisymm b (inv .within)) ∙ inv .passed)
+
+-- Some number passes
+
+module _ (p : ℕ → Bool) where
+  -- one test that passes decides
+  pub any-passes : (n k : ℕ) → k < n → p k ≡ true → anyBelow n p ≡ true
+  unfolding anyBelow
+  any-passes zero k h e = absurd (not-suc-le-zero h)
+  any-passes (suc n) k h e =
+      ⊎-elim (λ q. rw (← q) (rw e (or-true (anyBelow k p)))) (λ l. rw (any-passes n k l e) refl)
+      (eq-or-lt-of-le (le-of-suc-le-suc h))
+
+  -- the same test by another name
+  pub any-below-same : (q : ℕ → Bool) (n : ℕ) → ((k : ℕ) → k < n → p k ≡ q k) → anyBelow n p ≡ anyBelow n q
+  unfolding anyBelow
+  any-below-same q zero e = refl
+  any-below-same q (suc n) e = cc (any-below-same q n (λ k l. e k (omega arith)), e n (omega arith))
+
+  -- a test of the numbers of `below`
+  pub any-below : (n : ℕ) → any p (below n) ≡ anyBelow n p
+  unfolding any below count anyBelow
+  any-below zero = refl
+  any-below (suc n) =
+      ap (any p) (below-more n) ∙ any-append p (below n) (n ∷ []) ∙ ap₂ (λ (s t : Bool). s || t) (any-below n) (or-false (p n))
+
+-- a test of the elements of a list that is made number by number
+pub any-numbered : {A : Type 0} (p : A → Bool) (f : ℕ → A) (n : ℕ) → any p (map f (below n)) ≡ anyBelow n (λ k. p (f k))
+any-numbered p f n = any-map p f (below n) ∙ any-below (λ k. p (f k)) n
+
+-- The invariant: no test below i has passed.
+pub record NoneYet (n : ℕ) (p : ℕ → Bool) (i : ℕ) : Type 0 where
+  pub within : i ≤ n
+  pub failed : anyBelow i p ≡ false
+
+pub seeks : {n : ℕ} {p : ℕ → Bool} → NoneYet n p 0
+unfolding anyBelow
+seeks {n} {p} = record { within = omega arith; failed = refl }
+
+module _ {n i : ℕ} {p : ℕ → Bool} (inv : NoneYet n p i) where
+  -- a turn whose test r fails
+  pub passes-by : {r : Bool} → i < n → r ≡ p i → r ≡ false → NoneYet n p (i + 1)
+  unfolding anyBelow
+  passes-by {r} l e t = record { within = omega arith; failed = rw add-one (rw (inv .failed) (sym e ∙ t)) }
+
+  -- a turn whose test r holds
+  pub meets : {r : Bool} → i < n → r ≡ p i → r ≡ true → true ≡ anyBelow n p
+  meets {r} l e t = sym (any-passes p n i l (sym e ∙ t))
+
+  -- the end of the loop
+  pub finds-none : n ≤ i → false ≡ anyBelow n p
+  finds-none b = sym (ap (λ (k : ℕ). anyBelow k p) (le-antisymm b (inv .within)) ∙ inv .failed)
