@@ -6,3 +6,5 @@ pub mod Tests
 pub mod Folds
 pub mod Copies
 pub mod Scans
+pub mod Bits
+pub mod Entries

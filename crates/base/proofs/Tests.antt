@@ -12,7 +12,7 @@ use borrow.Author.Tests.{not-true, not-false}
 use Rattle.base.specs.Lists.{all, any, count, below}
 use Rattle.base.specs.Below.{allBelow, anyBelow}
 use Rattle.base.proofs.Bools.{and-parts}
-use Rattle.base.proofs.Lists.{any-append, any-map, below-more}
+use Rattle.base.proofs.Lists.{any-append, any-map, any-and, any-and-after, below-more}
 
 module _ (p : ℕ → Bool) where
   -- one test that fails decides
@@ -109,6 +109,13 @@ module _ (p : ℕ → Bool) where
 -- a test of the elements of a list that is made number by number
 pub any-numbered : {A : Type 0} (p : A → Bool) (f : ℕ → A) (n : ℕ) → any p (map f (below n)) ≡ anyBelow n (λ k. p (f k))
 any-numbered p f n = any-map p f (below n) ∙ any-below (λ k. p (f k)) n
+
+-- a test that does not depend on the number stands before or after
+pub any-below-and : (b : Bool) (p : ℕ → Bool) (n : ℕ) → anyBelow n (λ k. b && p k) ≡ (b && anyBelow n p)
+any-below-and b p n = sym (any-below (λ k. b && p k) n) ∙ any-and b p (below n) ∙ ap (λ (t : Bool). b && t) (any-below p n)
+
+pub any-below-and-after : (p : ℕ → Bool) (b : Bool) (n : ℕ) → anyBelow n (λ k. p k && b) ≡ (anyBelow n p && b)
+any-below-and-after p b n = sym (any-below (λ k. p k && b) n) ∙ any-and-after p b (below n) ∙ ap (λ (t : Bool). t && b) (any-below p n)
 
 -- The invariant: no test below i has passed.
 pub record NoneYet (n : ℕ) (p : ℕ → Bool) (i : ℕ) : Type 0 where

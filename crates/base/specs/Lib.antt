@@ -3,3 +3,4 @@ pub mod Lists
 pub mod Lex
 pub mod Below
 pub mod Fold
+pub mod Bits

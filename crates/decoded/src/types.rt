@@ -80,6 +80,13 @@ pub fn wide(b: u8) -> usize
     b as usize
 }
 
+// A 16-bit number as a number.
+pub fn wide16(n: u16) -> usize
+    ensures { λ r. ⌜ (r ≡ n) × (r < 65536) ⌝ }
+{
+    n as usize
+}
+
 // Eight bytes of `from`, from index `start` on, into `to` from index `at` on.
 pub fn copy_eight(to: &mut [u8], at: usize, from: &[u8], start: usize)
     requires { ⌜ (at + 8 ≤ length (now to)) × (start + 8 ≤ length (now from)) ⌝ }

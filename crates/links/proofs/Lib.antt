@@ -1,3 +1,4 @@
 -- The laws of this crate, open to the crates above it.
-pub mod MarkLaws
 pub mod OperationLaws
+pub mod RoleLaws
+pub mod LinkLaws

@@ -1,3 +1,3 @@
--- The marks of two instructions, and the links that they give.
-pub mod Marks
+-- The table of operations, and the links between them.
 pub mod Operations
+pub mod Links

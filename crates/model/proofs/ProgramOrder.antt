@@ -20,10 +20,10 @@ abbrev byRule4 : Kind → Kind → Bool
 byRule4 j k = isFence j || isFence k
 
 -- one test of the whole table
-abbrev kinds : List Kind
+abbrev pub kinds : List Kind
 kinds = ld ∷ ld-acq ∷ st ∷ st-rel ∷ mf ∷ []
 
-listed : (k : Kind) → List·Memᴰ k kinds
+pub listed : (k : Kind) → List·Memᴰ k kinds
 listed ld = List·Memᴰ·head refl
 listed ld-acq = List·Memᴰ·tail (List·Memᴰ·head refl)
 listed st = List·Memᴰ·tail (List·Memᴰ·tail (List·Memᴰ·head refl))

@@ -141,7 +141,7 @@ module _ (e : Execution) where
 
 -- Memory
 
-abbrev noLine : Line
+abbrev pub noLine : Line
 noLine = record { attribute = WC; initial = [] }
 
 -- the line of an address

@@ -1,5 +1,5 @@
 -- Places say which operation stands before which; one operation more.
-use Prim.Native.Nat.{ℕ, zero, suc, _+_, _≤_, _<_}
+use Prim.Native.Nat.{ℕ, suc, _+_, _≤_, _<_}
 use native.Mathlib.Omega.{arith}
 use native.Mathlib.Decide.{ℕ-discrete, decLt}
 use native.Mathlib.Numerals.{add-one}
@@ -74,12 +74,15 @@ placed-none o = go (decLt o 128)
     go (yes h) = placed-there (replicate 128 255) o h ∙ getD-replicate 128 o 255 0 h
     go (no h) = placed-past (replicate 128 255) o (omega arith)
 
-module _ {xs places : List ℕ} (h : Placed xs places) where
+module _ {n : ℕ} {xs places : List ℕ} (h : Placed n xs places) where
+  pub placed-short : length xs ≤ 128
+  placed-short = omega (arith, h .few, distinct-length n xs (h .apart))
+
   pub before-placed : (a b : ℕ) → before xs a b ≡ ltb (placed places a) (placed places b)
-  before-placed a b = before-from 0 xs a b (omega (arith, h .short)) ∙ sym (ap₂ ltb (h .stands a) (h .stands b))
+  before-placed a b = before-from 0 xs a b (omega (arith, placed-short)) ∙ sym (ap₂ ltb (h .stands a) (h .stands b))
 
   pub member-placed : (o : ℕ) → member xs o ≡ ltb (placed places o) 255
-  member-placed o = member-from 0 xs o (omega (arith, h .short)) ∙ sym (ap (λ (p : ℕ). ltb p 255) (h .stands o))
+  member-placed o = member-from 0 xs o (omega (arith, placed-short)) ∙ sym (ap (λ (p : ℕ). ltb p 255) (h .stands o))
 
 -- one operation more, that did not stand
 place-more : (k : ℕ) (xs : List ℕ) (x o : ℕ) → member xs x ≡ false → placeFrom k (xs ++ (x ∷ [])) o ≡ cond (eqb x o) (k + length xs) (placeFrom k xs o)
@@ -104,15 +107,14 @@ place-more k (y ∷ xs) x o h = go (eqb y x) refl h (place-more (suc k) xs x o)
 pub record Placing-so-far (n : ℕ) (xs : List ℕ) (k : ℕ) (places : List ℕ) : Type 0 where
   pub within : k ≤ length xs
   pub long : length places ≡ 128
-  pub apart : distinct n [] (take k xs) ≡ true
-  pub so-far : Placed (take k xs) places
+  pub so-far : Placed n (take k xs) places
 
-pub placing-none : {n : ℕ} {xs places : List ℕ} → length places ≡ 128 → ((o : ℕ) → placed places o ≡ 255) → Placing-so-far n xs 0 places
+pub placing-none : {n : ℕ} {xs places : List ℕ} → n ≤ 128 → length places ≡ 128 → ((o : ℕ) → placed places o ≡ 255) → Placing-so-far n xs 0 places
 unfolding distinct placeFrom
-placing-none {n} {xs} {places} l h = record { within = omega arith; long = l; apart = refl; so-far = record { short = omega arith; stands = h } }
+placing-none {n} {xs} {places} f l h = record { within = omega arith; long = l; so-far = record { few = f; apart = refl; stands = h } }
 
 pub placing-short : {n k : ℕ} {xs places : List ℕ} → Placing-so-far n xs k places → k ≤ n
-placing-short {n} {k} {xs} inv = omega (arith, distinct-length n (take k xs) (inv .apart), length-take-le k xs (inv .within))
+placing-short {n} {k} {xs} inv = omega (arith, distinct-length n (take k xs) (inv .so-far .apart), length-take-le k xs (inv .within))
 
 module _ {n : ℕ} {xs : List ℕ} {k : ℕ} {places : List ℕ} (inv : Placing-so-far n xs k places) (there : k < length xs) (x : ℕ) (is : x ≡ getD xs k 0) where
   one-more : take (k + 1) xs ≡ take k xs ++ (x ∷ [])
@@ -121,16 +123,15 @@ module _ {n : ℕ} {xs : List ℕ} {k : ℕ} {places : List ℕ} (inv : Placing-
   apart-more : distinct n [] (take (k + 1) xs) ≡ (ltb x n && not (ltb (placed places x) 255))
   apart-more =
       ap (distinct n []) one-more ∙ distinct-append n [] (take k xs) x
-      ∙ ap₂ (λ (s t : Bool). s && (ltb x n && not t)) (inv .apart) (member-placed (inv .so-far) x)
+      ∙ ap₂ (λ (s t : Bool). s && (ltb x n && not t)) (inv .so-far .apart) (member-placed (inv .so-far) x)
 
   -- the next entry is an operation below n that does not stand yet
-  pub placing-more : n ≤ 128 → x < n → placed places x ≡ 255 → Placing-so-far n xs (k + 1) (set places x k)
+  pub placing-more : x < n → placed places x ≡ 255 → Placing-so-far n xs (k + 1) (set places x k)
   unfolding placed
-  placing-more few h e = record {
+  placing-more h e = record {
     within = omega arith;
     long = length-set places x k ∙ inv .long;
-    apart = apart;
-    so-far = record { short = omega (arith, distinct-length n (take (k + 1) xs) apart); stands = λ o. stands o (ℕ-discrete o x) };
+    so-far = record { few = inv .so-far .few; apart = apart; stands = λ o. stands o (ℕ-discrete o x) };
   }
     where
       new : ltb (placed places x) 255 ≡ false
@@ -174,10 +175,8 @@ module _ {n : ℕ} {xs : List ℕ} {k : ℕ} {places : List ℕ} (inv : Placing-
           (λ f. absurd (h (at-most x (inv .so-far .stands x) (ltb-false (placed places x) 255 f))))
         where
           at-most : (o : ℕ) → placed places o ≡ placeFrom 0 (take k xs) o → 255 ≤ placed places o → placed places o ≡ 255
-          at-most o e l = omega (arith, e, place-top 0 (take k xs) o (omega (arith, inv .so-far .short)))
+          at-most o e l = omega (arith, e, place-top 0 (take k xs) o (omega (arith, placed-short (inv .so-far))))
 
 -- all entries are placed
-pub placing-done : {n k : ℕ} {xs places : List ℕ} → Placing-so-far n xs k places → length xs ≤ k → (distinct n [] xs ≡ true) × Placed xs places
-placing-done {n} {k} {xs} {places} inv h =
-    let e : take k xs ≡ xs = take-all k xs h in
-    (ap (distinct n []) (sym e) ∙ inv .apart, subst (λ (l : List ℕ). Placed l places) e (inv .so-far))
+pub placing-done : {n k : ℕ} {xs places : List ℕ} → Placing-so-far n xs k places → length xs ≤ k → Placed n xs places
+placing-done {n} {k} {xs} {places} inv h = subst (λ (l : List ℕ). Placed n l places) (take-all k xs h) (inv .so-far)

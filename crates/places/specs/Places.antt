@@ -3,7 +3,7 @@ use Prim.Native.Nat.{ℕ, suc, _≤_}
 use mathlib.Core.Path.{_≡_}
 use mathlib.Core.Bool.{true, cond}
 use mathlib.Core.List.{List, [], _∷_}
-use lib.ListN.{length, getD}
+use lib.ListN.{getD}
 use lib.Dec.{eqb, ltb}
 use Rattle.base.specs.Lists.{distinct}
 use Rattle.places.specs.declared.Placing.{Placing}
@@ -17,12 +17,13 @@ placeFrom k (x ∷ xs) o = cond (eqb x o) k (placeFrom (suc k) xs o)
 unfoldable pub placed : List ℕ → ℕ → ℕ
 placed places o = cond (ltb o 128) (getD places o 0) 255
 
--- the table holds the places of an order
-pub record Placed (xs places : List ℕ) : Type 0 where
-  pub short : length xs ≤ 128
+-- the table holds the places of an order of different operations, of n
+pub record Placed (n : ℕ) (xs places : List ℕ) : Type 0 where
+  pub few : n ≤ 128
+  pub apart : distinct n [] xs ≡ true
   pub stands : (o : ℕ) → placed places o ≡ placeFrom 0 xs o
 
 -- what placing the operations of an order, of n, comes to
 pub record Placement (n : ℕ) (xs : List ℕ) (r : Placing) : Type 0 where
   pub told : r .distinct ≡ distinct n [] xs
-  pub places : r .distinct ≡ true → Placed xs (r .places)
+  pub places : r .distinct ≡ true → Placed n xs (r .places)

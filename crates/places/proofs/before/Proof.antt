@@ -4,9 +4,6 @@ use lib.Dec.{ltb}
 use borrow.Author.Needs.{needs}
 use Rattle.places.proofs.before.Statement.{statement}
 use Rattle.places.proofs.before.Tie as tie
-use Rattle.places.proofs.before.Reads as reads
-use Rattle.places.proofs.before.Lts as lts
-use Rattle.places.proofs.place_of.Reads as place-of-reads
 
 -- src/lib.rt:31:5
 place-of-requires : tie.Need-place-of-requires

@@ -1,16 +1,13 @@
 -- Each turn places one entry; an entry that is no operation, or stands already, decides.
 use Prim.Native.Nat.{_-_}
-use mathlib.Core.Path.{_≡_, refl, sym, ap, _∙_}
+use mathlib.Core.Path.{_≡_, refl, sym, _∙_}
 use mathlib.Core.Bool.{false≢true}
-use lib.ListN.{length, getD}
+use lib.ListN.{length}
 use Rattle.places.proofs.PlaceLaws.{Placing-so-far, placed-there, placed-none, placing-none, placing-short, placing-more, placing-large, placing-twice, placing-done}
 use native.Mathlib.Omega.{arith}
 use borrow.Author.Needs.{needs}
 use Rattle.places.proofs.place_all.Statement.{statement}
 use Rattle.places.proofs.place_all.Tie as tie
-use Rattle.places.proofs.place_all.Reads as reads
-use Rattle.places.proofs.place_all.Lts as lts
-use Rattle.decoded.proofs.types.wide.Reads as wide-reads
 
 abbrev Inv-loop : tie.InvT-loop
 Inv-loop order n places₀ k₀ k-end places k = (k-end ≡ length order) × Placing-so-far n order k places
@@ -20,7 +17,7 @@ abbrev μ-loop : tie.MeasureT-loop
 
 -- src/lib.rt:41:5
 loop-holds : tie.Need-loop-holds Inv-loop μ-loop
-loop-holds c = (refl, placing-none refl placed-none)
+loop-holds c = (refl, placing-none (c .before .pre) refl placed-none)
 
 -- src/lib.rt:42:22
 shared-slice-read-wide : tie.Need-shared-slice-read-wide Inv-loop μ-loop
@@ -68,14 +65,14 @@ loop-less c = omega arith
 loop-again : tie.Need-loop-again Inv-loop μ-loop
 loop-again c = (
   refl,
-  placing-more (c .before .before .before .before .before .loop .inv .1) (c .before .before .before .before .loop-test .taken) (c .before .before .wide .result) (c .before .before .wide .ensures .0) (omega arith) (omega arith) (placed-there (c .before .before .before .before .before .loop .places) (c .before .before .wide .result) (omega arith) ∙ c .if2 .left),
+  placing-more (c .before .before .before .before .before .loop .inv .1) (c .before .before .before .before .loop-test .taken) (c .before .before .wide .result) (c .before .before .wide .ensures .0) (omega arith) (placed-there (c .before .before .before .before .before .loop .places) (c .before .before .wide .result) (omega arith) ∙ c .if2 .left),
 )
 
 -- src/lib.rt:36:1
 returns-3 : tie.Need-returns-3 Inv-loop μ-loop
 returns-3 c =
-    let (apart, stands) = placing-done (c .before .loop .inv .1) (c .loop-test .left) in
-    record { told = sym apart; places = λ h. stands }
+    let stands = placing-done (c .before .loop .inv .1) (c .loop-test .left) in
+    record { told = sym (stands .apart); places = λ h. stands }
 
 pub place-all-spec : {M : Type 1} → statement M
 place-all-spec =

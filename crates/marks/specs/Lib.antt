@@ -1,0 +1,2 @@
+-- The marks of two instructions.
+pub mod Marks

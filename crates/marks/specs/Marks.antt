@@ -1,0 +1,55 @@
+-- What two instructions are to each other, as marks packed into one number.
+use Prim.Native.Nat.{ℕ, _+_, _/_, _%_}
+use mathlib.Core.Bool.{Bool, false, _&&_}
+use mathlib.Core.List.{List, [], _∷_}
+use lib.ListN.{getD}
+use lib.Dec.{eqb, leb, ltb}
+use Rattle.base.specs.Lists.{any, count, member}
+use Rattle.base.specs.Bits.{packed}
+use Rattle.model.specs.Execution.{Kind, isLoad, isStore, isRelease, Instruction, Execution}
+use Rattle.model.specs.ProgramOrder.{marks}
+use Rattle.model.specs.Rules.{overlap, inWB, inUC, conflict}
+
+-- the marks of rules 2, 3 and 4, by the table of rule marks
+unfoldable pub programMarks : Kind → Kind → ℕ
+programMarks earlier later =
+    packed (false ∷ member (marks earlier later) 2 ∷ member (marks earlier later) 3 ∷ member (marks earlier later) 4 ∷ [])
+
+-- two accesses by address and size share a byte
+unfoldable pub sharesByte : ℕ → ℕ → ℕ → ℕ → Bool
+sharesByte address size other extent = any (λ a. leb other a && ltb a (other + extent)) (count address size)
+
+-- a mark is among those added up
+abbrev pub hasMark : ℕ → ℕ → Bool
+hasMark marks mark = eqb (marks / mark % 2) 1
+
+-- the first is an earlier instruction of the second's program
+unfoldable pub earlierOf : Instruction → Instruction → Bool
+earlierOf i j = eqb (i .processor) (j .processor) && ltb (i .number) (j .number)
+
+-- the two are a given pair of instruction numbers
+unfoldable pub givenPair : List (ℕ × ℕ) → ℕ → ℕ → Bool
+givenPair pairs m n = any (λ p. eqb (p .0) m && eqb (p .1) n) pairs
+
+-- The marks in the order of their bits: one instruction; rules 2, 3 and 4 by the kinds; a shared byte; a dependence pair; UC memory of both;
+-- rules 9 and 10: conflicting stores; rule 14: a UC store and an overlapping load of its processor; rule 12: one st.rel to WB.
+unfoldable pub marksOf : Execution → Instruction → Instruction → List Bool
+marksOf e i j =
+    eqb (i .number) (j .number)
+    ∷ (earlierOf i j && member (marks (i .kind) (j .kind)) 2)
+    ∷ (earlierOf i j && member (marks (i .kind) (j .kind)) 3)
+    ∷ (earlierOf i j && member (marks (i .kind) (j .kind)) 4)
+    ∷ (earlierOf i j && overlap i j)
+    ∷ givenPair (e .pairs) (i .number) (j .number)
+    ∷ (earlierOf i j && (inUC e i && inUC e j))
+    ∷ (isStore (i .kind) && isStore (j .kind) && conflict e i j)
+    ∷ (isStore (i .kind) && isLoad (j .kind) && (inUC e i && (eqb (i .processor) (j .processor) && overlap i j)))
+    ∷ (eqb (i .number) (j .number) && (isStore (i .kind) && (isRelease (i .kind) && inWB e i)))
+    ∷ []
+
+unfoldable pub marksBetween : Execution → Instruction → Instruction → ℕ
+marksBetween e i j = packed (marksOf e i j)
+
+-- the mark at row i and column j
+abbrev pub markAt : List (List ℕ) → ℕ → ℕ → ℕ
+markAt marks i j = getD (getD marks i []) j 0
