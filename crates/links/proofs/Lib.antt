@@ -2,3 +2,4 @@
 pub mod OperationLaws
 pub mod RoleLaws
 pub mod LinkLaws
+pub mod CompiledLaws

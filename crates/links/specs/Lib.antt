@@ -1,3 +1,4 @@
 -- The table of operations, and the links between them.
 pub mod Operations
 pub mod Links
+pub mod Compiled

@@ -12,7 +12,7 @@ use Rattle.base.specs.Lists.{all}
 use Rattle.base.proofs.Bools.{split, and-parts}
 use Rattle.base.proofs.Lists.{member-in, all-member}
 use Rattle.model.specs.Execution.{Kind, kindOf, isFence, Instruction, Execution, roles, operationCount, operations, Line}
-use Rattle.model.specs.Questions.{Found, no-to, found, Reader, next, item, byte, ask, many, question2, question3, question5, question7, question8, question11, instructionOf, readLine, readLines, readInstruction, readProgram, readPrograms, readInstructions, readPairs, question15, readRecord}
+use Rattle.model.specs.Questions.{Found, no-to, found, Reader, next, item, byte, ask, many, question2, question3, question5, question7, question8, question11, question12, instructionOf, readLine, readLines, readInstruction, readProgram, readPrograms, readInstructions, readPair, readPairs, question15, readRecord}
 
 -- Steps of a walk that found something
 
@@ -163,6 +163,7 @@ pub record Accepted (e : Execution) : Type 0 where
   pub lines-few : length (e .lines) ≤ 8
   pub instructions-few : length (e .instructions) ≤ 40
   pub operations-few : operations e ≤ 128
+  pub pairs-few : length (e .pairs) ≤ 40
   pub laid : Laid (e .processors) 0 0 (e .instructions)
   pub sound : Each (Sound (e .processors) (length (e .lines))) (e .instructions)
 
@@ -174,6 +175,13 @@ lines-counted bytes lines r h =
     let (some, few) = and-parts (leb 1 n) (leb n 8) (asked 3 (leb 1 n && leb n 8) b1 u2 b2 e2) in
     let long = many-length (λ done. readLine) n [] b2 lines r h2 in
     (omega (arith, leb-true 1 n some, long), omega (arith, leb-true n 8 few, long))))
+
+pairs-counted : (is : List Instruction) (bytes : List ℕ) (pairs : List (ℕ × ℕ)) (r : List ℕ) → readPairs is bytes ≡ found pairs r → length pairs ≤ 40
+unfolding readPairs question12
+pairs-counted is bytes pairs r h =
+    step (byte bytes) _ pairs r h (λ n b1 e1 h1.
+    step (ask 12 _ b1) _ pairs r h1 (λ u2 b2 e2 h2.
+    omega (arith, leb-true n 40 (asked 12 (leb n 40) b1 u2 b2 e2), many-length (readPair is) n [] b2 pairs r h2)))
 
 pub accepted : (bytes : List ℕ) (e : Execution) (rest : List ℕ) → readRecord bytes ≡ found e rest → Accepted e
 unfolding readRecord readInstructions question2 question11 operations
@@ -198,6 +206,7 @@ accepted bytes e rest h =
       lines-few = counted .1;
       instructions-few = subst (λ (l : List Instruction). length l ≤ 40) w short;
       operations-few = subst (λ (l : List Instruction). operationCount p l ≤ 128) w (leb-true (operationCount p js) 128 (asked 11 (leb (operationCount p js) 128) b8 u9 b9 e9));
+      pairs-few = pairs-counted is b4 pairs b5 e5;
       laid = subst (Laid p 0 0) w (inv .0);
       sound = subst (Each (Sound p (length lines))) w (inv .1);
     }))))))))))

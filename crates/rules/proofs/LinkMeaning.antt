@@ -1,25 +1,26 @@
 -- The tests of rules 1 to 8 and 13 over tables say what the rules say.
 use Prim.Native.Nat.{ℕ, _<_}
-use mathlib.Core.Path.{_≡_, sym, ap, ap₂, _∙_, subst}
+use mathlib.Core.Path.{_≡_, sym, ap, ap₂, _∙_}
 use mathlib.Core.Bool.{Bool, _&&_, and-comm}
-use mathlib.Core.List.{List, [], _∷_, map, List·Memᴰ, Memᴰ·map, Memᴰ·of-map}
+use mathlib.Core.List.{List, [], _∷_, map}
 use lib.ListN.{getD}
-use Rattle.base.specs.Lists.{any, when, for, below}
-use Rattle.base.proofs.Lists.{any-same, any-for, any-map, any-when, any-one, in-below, of-below}
+use Rattle.base.specs.Lists.{any, when, for}
+use Rattle.base.proofs.Lists.{any-same, any-for, any-map, any-when, any-one}
 use Rattle.base.proofs.Tests.{any-numbered, any-below-same}
 use Rattle.model.specs.Execution as model
 use Rattle.model.specs.Execution.{allOperations}
 use Rattle.model.specs.Rules.{before, Link, must, broken, linksOf}
 use Rattle.decoded.specs.declared.types.Execution.{Execution}
-use Rattle.decoded.specs.Decoded.{instructionAt, instructionsOf, executionOf}
+use Rattle.decoded.specs.Decoded.{instructionAt, executionOf}
 use Rattle.places.specs.Places.{Placed}
 use Rattle.places.proofs.PlaceLaws.{before-placed}
 use Rattle.links.specs.declared.operations.Operations.{Operations}
 use Rattle.links.specs.Operations.{operationAt, tableOf}
 use Rattle.links.specs.Links.{linkOf, linkBy}
-use Rattle.links.proofs.LinkLaws.{operation-role, operation-of, link-means}
+use Rattle.links.proofs.LinkLaws.{operation-role, link-means}
+use Rattle.links.proofs.CompiledLaws.{operation-there, owner-there}
 use Rattle.rules.specs.Tests.{standsAgainst, linksBroken}
-use Rattle.rules.specs.Compiled.{Compiled}
+use Rattle.links.specs.Compiled.{Compiled}
 
 -- the links of a relation that a prefix breaks
 links-broken : (e : model.Execution) (link : model.Operation → model.Operation → Bool) (xs : List ℕ)
@@ -39,18 +40,6 @@ module _ {x : Execution} {t : Operations} {marks : List (List ℕ)} (h : Compile
   abbrev e : model.Execution
   e = executionOf x
 
-  -- operation o of the table is one of the execution
-  pub operation-there : (o : ℕ) → o < t .count → List·Memᴰ (operationAt (x .instructions) t o) (allOperations e)
-  unfolding tableOf
-  operation-there o l = subst (List·Memᴰ (operationAt (x .instructions) t o)) (h .tabled .holds) (Memᴰ·map (operationAt (x .instructions) t) (in-below (t .count) o l))
-
-  -- its instruction is one of the record
-  pub owner-there : (o : ℕ) → o < t .count → getD (t .owners) o 0 < x .instructions .count
-  unfolding operationAt instructionsOf instructionAt executionOf
-  owner-there o l =
-      let (k, m, q) = Memᴰ·of-map (instructionAt (x .instructions)) (below (x .instructions .count)) (operation-of e (operationAt (x .instructions) t o) (operation-there o l)) in
-      subst (λ (i : ℕ). i < x .instructions .count) (ap (λ (i : model.Instruction). i .number) q) (of-below (x .instructions .count) m)
-
   module _ {n : ℕ} {xs places : List ℕ} (p : Placed n xs places) (rule : ℕ) where
     -- two operations
     stands-mean : (a b : ℕ) → a < t .count → b < t .count
@@ -60,9 +49,9 @@ module _ {x : Execution} {t : Operations} {marks : List (List ℕ)} (h : Compile
     stands-mean a b la lb =
         ap₂ _&&_ (sym (before-placed p b a))
         (ap (λ (m : ℕ). linkBy rule m (getD (x .instructions .processors) (getD (t .owners) a 0) 0) (operationAt (x .instructions) t a .role) (operationAt (x .instructions) t b .role))
-        (h .marked (getD (t .owners) a 0) (getD (t .owners) b 0) (owner-there a la) (owner-there b lb))
+        (h .marked (getD (t .owners) a 0) (getD (t .owners) b 0) (owner-there h a la) (owner-there h b lb))
         ∙ link-means e rule (e .processors) (operationAt (x .instructions) t a) (operationAt (x .instructions) t b)
-        (operation-role e (operationAt (x .instructions) t a) (operation-there a la)) (operation-role e (operationAt (x .instructions) t b) (operation-there b lb))
+        (operation-role e (operationAt (x .instructions) t a) (operation-there h a la)) (operation-role e (operationAt (x .instructions) t b) (operation-there h b lb))
         (λ q. ap (λ (k : ℕ). getD (x .instructions .processors) k 0) q))
         ∙ and-comm (before xs b a) (linkOf e rule (operationAt (x .instructions) t a) (operationAt (x .instructions) t b))
 

@@ -24,7 +24,7 @@ use Rattle.places.proofs.PlaceLaws.{before-placed}
 use Rattle.marks.specs.Marks.{hasMark, markAt, marksOf, marksBetween}
 use Rattle.links.specs.declared.operations.Operations.{Operations}
 use Rattle.rules.specs.Tests.{beforeBy, someBefore, ownTurned, remoteTurned, releaseSplitBy, releaseSplit, bypassed, pairBroken, pairsBroken}
-use Rattle.rules.specs.Compiled.{Compiled}
+use Rattle.links.specs.Compiled.{Compiled}
 
 -- the RVs of a store by number
 remote-range : (w : model.Instruction) (P o : ℕ) → member (map (λ q. numberOf w (RV q)) (below P)) o ≡ (leb (1 + w .first) o && ltb o (1 + w .first + P))

@@ -12,7 +12,7 @@ use Rattle.decoded.specs.Decoded.{executionOf}
 use Rattle.places.specs.Places.{Placed}
 use Rattle.links.specs.declared.operations.Operations.{Operations}
 use Rattle.rules.specs.Tests.{pairsBroken, linksBroken}
-use Rattle.rules.specs.Compiled.{Compiled}
+use Rattle.links.specs.Compiled.{Compiled}
 use Rattle.rules.proofs.LinkMeaning.{links-mean}
 use Rattle.rules.proofs.PairMeaning.{rule9-means, rule10-means, rule12-means, rule14-means}
 use Rattle.rules.proofs.LowestLaws.{link-rule}

@@ -1,3 +1,3 @@
 -- The rules as tests of tables: marks of two instructions, operations, places.
 pub mod Tests
-pub mod Compiled
+pub mod Lowest

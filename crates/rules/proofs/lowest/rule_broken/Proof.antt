@@ -1,7 +1,7 @@
 -- Each rule by its arm.
 use native.Mathlib.Omega.{arith}
 use mathlib.Core.Path.{_∙_}
-use Rattle.rules.proofs.LinkMeaning.{owner-there}
+use Rattle.links.proofs.CompiledLaws.{owner-there}
 use Rattle.rules.proofs.RuleMeaning.{means9, means10, means11, means12, means14, means-links}
 use borrow.Author.Needs.{needs}
 use Rattle.rules.proofs.lowest.rule_broken.Statement.{statement}

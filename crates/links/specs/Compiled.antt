@@ -6,19 +6,11 @@ use Rattle.model.specs.Execution.{operations, allOperations}
 use Rattle.decoded.specs.declared.types.Execution.{Execution}
 use Rattle.decoded.specs.Decoded.{instructionAt, executionOf}
 use Rattle.marks.specs.Marks.{marksBetween, markAt}
-use mathlib.Core.Option.{Option, none, some}
-use Rattle.rules.specs.declared.lowest.Lowest.{Lowest}
-use Rattle.rules.specs.declared.lowest.Lowest.the-variants.{Kept, Broken}
 use Rattle.links.specs.declared.operations.Operations.{Operations}
 use Rattle.links.specs.Operations.{Tabled}
 
 -- the table of operations, and the marks of every two instructions
 pub record Compiled (x : Execution) (t : Operations) (marks : List (List ℕ)) : Type 0 where
   pub tabled : Tabled (x .instructions) t (allOperations (executionOf x)) (operations (executionOf x))
   pub marked : (i j : ℕ) → i < x .instructions .count → j < x .instructions .count
       → markAt marks i j ≡ marksBetween (executionOf x) (instructionAt (x .instructions) i) (instructionAt (x .instructions) j)
-
--- the lowest broken rule of the code as the model's
-abbrev pub lowestMeant : Lowest → Option ℕ
-lowestMeant Kept = none
-lowestMeant (Broken k) = some k

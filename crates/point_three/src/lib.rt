@@ -1,0 +1,1 @@
+// Point 3: no code, its proof alone.
