@@ -3,6 +3,12 @@
 mod exported {
     extern "C" {
         pub fn oglindesh_check(bytes: *const u8, length: usize) -> u32;
+        pub fn oglindesh_judge(
+            bytes: *const u8,
+            length: usize,
+            order: *const u8,
+            entries: usize,
+        ) -> u32;
     }
 }
 
@@ -29,4 +35,42 @@ pub fn check(record: &[u8]) -> Result<(), u8> {
         0 => Ok(()),
         number => Err(question(number)),
     }
+}
+
+/// What the judge says of an order that is not refused.
+#[derive(Clone, Copy, PartialEq, Eq, Debug)]
+pub enum Judgement {
+    Legal,
+    /// The lowest rule number that the order breaks.
+    Breaks(u8),
+}
+
+/// Judges an order of all operations of a record; where a question refuses it, the number of the first that it fails.
+///
+/// ```
+/// use oglindesh::proved::{judge, Judgement};
+///
+/// // One processor, one WB line of zeros, one mf: its only order.
+/// let mut record = vec![1, 1];
+/// record.extend([0; 9]);
+/// record.push(1);
+/// record.extend([4, 0, 0, 0, 0, 0, 0, 0, 0, 0, 0]);
+/// record.push(0);
+/// assert_eq!(judge(&record, &[0]), Ok(Judgement::Legal));
+/// assert_eq!(judge(&record, &[]), Err(16));
+/// ```
+pub fn judge(record: &[u8], order: &[u8]) -> Result<Judgement, u8> {
+    // SAFETY: each pointer and the length after it are those of one slice, which the call only reads.
+    match unsafe {
+        exported::oglindesh_judge(record.as_ptr(), record.len(), order.as_ptr(), order.len())
+    } {
+        0 => Ok(Judgement::Legal),
+        number if number < REFUSED => Ok(Judgement::Breaks(rule(number))),
+        number => Err(question(number)),
+    }
+}
+
+/// The rule of a number that says 'breaks'.
+fn rule(number: u32) -> u8 {
+    u8::try_from(number).expect("a broken rule is its number")
 }

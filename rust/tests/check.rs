@@ -23,7 +23,10 @@ impl Tally {
 
     fn assert_all_reached(&self) {
         for (question, count) in self.0.iter().enumerate() {
-            assert!(*count > 0, "no record reached question {question} (0: accepted)");
+            assert!(
+                *count > 0,
+                "no record reached question {question} (0: accepted)"
+            );
         }
     }
 }
@@ -82,7 +85,13 @@ fn readers_agree_on_random_bytes() {
         let length = random.below(80);
         let small = random.once_in(2);
         let bytes: Vec<u8> = (0..length)
-            .map(|_| if small { random.byte() % 6 } else { random.byte() })
+            .map(|_| {
+                if small {
+                    random.byte() % 6
+                } else {
+                    random.byte()
+                }
+            })
             .collect();
         tally.ask(&bytes);
     }

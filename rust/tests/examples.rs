@@ -1,11 +1,12 @@
 //! Document 01's executions to hold it to, and the examples of the source documents.
 
+use oglindesh::beside::judge;
 use oglindesh::examples::{
     computations, eight_processors, k1, k1_uncacheable, lone_load, note_appendix_a,
     note_appendix_b, scope, table_12, Example, Mark,
 };
 use oglindesh::reference::record::{read, Kind};
-use oglindesh::reference::rules::{judge, lowest_broken, JudgeAnswer};
+use oglindesh::reference::rules::{lowest_broken, JudgeAnswer};
 use oglindesh::reference::search::{search, SearchAnswer, SearchReply};
 use oglindesh::reference::{fast, notation};
 

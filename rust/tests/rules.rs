@@ -1,8 +1,9 @@
 //! The rules 1 to 14 by hand: for each an order and a prefix that break it first.
 
+use oglindesh::beside::judge;
 use oglindesh::reference::notation::{self, acq, ld, mf, programs, rel, st, Draft, X, Y};
 use oglindesh::reference::record::{Attribute, Kind};
-use oglindesh::reference::rules::{judge, lowest_broken, JudgeAnswer};
+use oglindesh::reference::rules::{lowest_broken, JudgeAnswer};
 
 fn judged(draft: &Draft, order: &[u8]) -> JudgeAnswer {
     judge(&draft.clone().build().to_bytes(), order)
