@@ -7,12 +7,12 @@ use mathlib.Core.List.{List, [], _∷_, _++_}
 use lib.ListN.{length, getD, take, drop, length-append, length-drop}
 use lib.Seq.{length-take-le}
 use lib.Dec.{leb}
-use borrow.Author.Tests.{leb-true}
+use borrow.Author.Tests.{leb-true, ltb-true}
 use Rattle.base.specs.Lists.{all}
 use Rattle.base.proofs.Bools.{split, and-parts}
 use Rattle.base.proofs.Lists.{member-in, all-member}
 use Rattle.model.specs.Execution.{Kind, kindOf, isFence, Instruction, Execution, roles, operationCount, operations, Line}
-use Rattle.model.specs.Questions.{Found, no-to, found, Reader, next, item, byte, ask, many, question2, question3, question5, question7, question8, question11, question12, instructionOf, readLine, readLines, readInstruction, readProgram, readPrograms, readInstructions, readPair, readPairs, question15, readRecord}
+use Rattle.model.specs.Questions.{Found, no-to, found, Reader, next, item, byte, ask, many, question2, question3, question5, question7, question8, question11, question12, question13, instructionOf, readLine, readLines, readInstruction, readProgram, readPrograms, readInstructions, readPair, readPairs, question15, readRecord}
 
 -- Steps of a walk that found something
 
@@ -156,6 +156,30 @@ module _ (processors lines : ℕ) where
       let (inv′, short′) = program-keeps p (omega arith) done bytes more rest inv e in
       programs-keep (suc p) left more rest out r (omega arith) inv′ short′ k
 
+-- the first instruction of a pair is the earlier one
+abbrev pub Rises : ℕ × ℕ → Type 0
+Rises p = p .0 < p .1
+
+pair-keeps : (is : List Instruction) (done : List (ℕ × ℕ)) (bytes : List ℕ) (p : ℕ × ℕ) (r : List ℕ)
+    → Each Rises done → readPair is done bytes ≡ found p r → Each Rises (done ++ (p ∷ []))
+unfolding readPair question13
+pair-keeps is done bytes p r inv h =
+    step (item 2 bytes) _ p r h (λ x b1 e1 h1.
+    step (ask 13 (question13 is (getD x 0 0) (getD x 1 0)) b1) _ p r h1 (λ u2 b2 e2 h2.
+    step (ask 14 _ b2) _ p r h2 (λ u3 b3 e3 h3.
+    let z : (getD x 0 0, getD x 1 0) ≡ p = cc in
+    let t = asked 13 (question13 is (getD x 0 0) (getD x 1 0)) b1 u2 b2 e2 in
+    subst (λ (q : ℕ × ℕ). Each Rises (done ++ (q ∷ []))) z
+    (each-more Rises done (getD x 0 0, getD x 1 0) inv
+    (ltb-true (getD x 0 0) (getD x 1 0) (and-parts _ _ (and-parts _ _ (and-parts _ _ t .0) .0) .0))))))
+
+pairs-rise : (is : List Instruction) (bytes : List ℕ) (pairs : List (ℕ × ℕ)) (r : List ℕ) → readPairs is bytes ≡ found pairs r → Each Rises pairs
+unfolding readPairs
+pairs-rise is bytes pairs r h =
+    step (byte bytes) _ pairs r h (λ n b1 e1 h1.
+    step (ask 12 _ b1) _ pairs r h1 (λ u2 b2 e2 h2.
+    many-keeps (readPair is) (Each Rises) (pair-keeps is) n [] b2 pairs r tt h2))
+
 -- What an accepted record gives
 pub record Accepted (e : Execution) : Type 0 where
   pub processors-few : e .processors ≤ 8
@@ -166,6 +190,7 @@ pub record Accepted (e : Execution) : Type 0 where
   pub pairs-few : length (e .pairs) ≤ 40
   pub laid : Laid (e .processors) 0 0 (e .instructions)
   pub sound : Each (Sound (e .processors) (length (e .lines))) (e .instructions)
+  pub rising : Each Rises (e .pairs)
 
 lines-counted : (bytes : List ℕ) (lines : List Line) (r : List ℕ) → readLines bytes ≡ found lines r → (1 ≤ length lines) × (length lines ≤ 8)
 unfolding readLines question3
@@ -209,4 +234,5 @@ accepted bytes e rest h =
       pairs-few = pairs-counted is b4 pairs b5 e5;
       laid = subst (Laid p 0 0) w (inv .0);
       sound = subst (Each (Sound p (length lines))) w (inv .1);
+      rising = pairs-rise is b4 pairs b5 e5;
     }))))))))))

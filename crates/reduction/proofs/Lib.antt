@@ -1,0 +1,11 @@
+-- The laws of this crate, open to the crates above it.
+pub mod Pairs
+pub mod Settled
+pub mod Newly
+pub mod Apart
+pub mod Links
+pub mod Stores
+pub mod Releases
+pub mod Loads
+pub mod Itself
+pub mod Reduction
