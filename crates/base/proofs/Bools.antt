@@ -1,6 +1,6 @@
 -- Laws of tests.
 use Prim.Native.Nat.{ℕ}
-use mathlib.Core.Path.{_≡_, refl, sym}
+use mathlib.Core.Path.{_≡_, refl, sym, ap, ap₂, _∙_}
 use lib.Dec.{eqb}
 use borrow.Author.Tests.{eq-eqb, eqb-true}
 use mathlib.Core.Bool.{Bool, true, false, _&&_, _||_, Bool·beq, false≢true}
@@ -33,6 +33,13 @@ and-both {a} {b} h k = rw h k
 pub or-right : (a b : Bool) → b ≡ true → (a || b) ≡ true
 or-right true b h = refl
 or-right false b h = h
+
+-- a test made only where another holds
+pub kept : {h r m t : Bool} → h ≡ m → h ≡ true → r ≡ t → r ≡ (m && t)
+kept {h} {r} {m} {t} e k f = ap₂ _&&_ (sym k ∙ e) f
+
+pub left-out : {h m : Bool} (t : Bool) → h ≡ m → h ≡ false → false ≡ (m && t)
+left-out {h} {m} t e k = ap (λ (b : Bool). b && t) (sym k ∙ e)
 
 pub beq-same : (a b : Bool) → Bool·beq a b ≡ true → a ≡ b
 beq-same true true h = refl

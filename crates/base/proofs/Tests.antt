@@ -30,6 +30,11 @@ module _ (p : ℕ → Bool) where
       let parts = and-parts (allBelow n p) (p n) t in
       ⊎-elim (λ q. ap p q ∙ parts .1) (λ l. all-at n (parts .0) k l) (eq-or-lt-of-le (le-of-suc-le-suc h))
 
+  pub all-below : (n : ℕ) → ((k : ℕ) → k < n → p k ≡ true) → allBelow n p ≡ true
+  unfolding allBelow
+  all-below zero f = refl
+  all-below (suc n) f = rw (all-below n (λ k l. f k (omega arith))) (f n (omega arith))
+
   -- the same test by another name
   pub all-same : (q : ℕ → Bool) (n : ℕ) → ((k : ℕ) → k < n → p k ≡ q k) → allBelow n p ≡ allBelow n q
   unfolding allBelow

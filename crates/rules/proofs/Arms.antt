@@ -7,13 +7,6 @@ use borrow.Author.Tests.{ne-eqb}
 use Rattle.marks.specs.Marks.{hasMark}
 use Rattle.rules.specs.Tests.{ownTurned, remoteTurned, releaseSplit, bypassed, pairBroken}
 
--- a test made only where a mark is set
-pub kept : {h r m t : Bool} → h ≡ m → h ≡ true → r ≡ t → r ≡ (m && t)
-kept {h} {r} {m} {t} e k f = ap₂ _&&_ (sym k ∙ e) f
-
-pub left-out : {h m : Bool} (t : Bool) → h ≡ m → h ≡ false → false ≡ (m && t)
-left-out {h} {m} t e k = ap (λ (b : Bool). b && t) (sym k ∙ e)
-
 module _ (places : List ℕ) (rule m N P v w p q : ℕ) where
   as-rule : (k : ℕ) → rule ≡ k → pairBroken places k m N P v w p q ≡ pairBroken places rule m N P v w p q
   as-rule k e = ap (λ (r : ℕ). pairBroken places r m N P v w p q) (sym e)

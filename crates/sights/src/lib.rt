@@ -255,7 +255,7 @@ fn sight_broken(x: Execution, places: &[u8; 128], load: usize, k: usize) -> bool
 }
 
 // Whether instruction i is a load that breaks the rule.
-fn load_broken(x: Execution, places: &[u8; 128], i: usize) -> bool
+pub fn load_broken(x: Execution, places: &[u8; 128], i: usize) -> bool
     requires { ⌜ (x .instructions .count ≤ 40) × (x .lines .count ≤ 8) × (i < 40) ⌝ }
     ensures { λ r. ⌜ r ≡ loadBroken x (now (places .entry)) i ⌝ }
 {

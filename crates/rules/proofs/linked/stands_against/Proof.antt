@@ -6,7 +6,7 @@ use Rattle.decoded.specs.Kinds.{roleNumbered}
 use Rattle.marks.specs.Marks.{markAt}
 use Rattle.links.specs.Links.{linkBy}
 use Rattle.rules.specs.Tests.{standsAgainst}
-use Rattle.rules.proofs.Arms.{kept, left-out}
+use Rattle.base.proofs.Bools.{kept, left-out}
 use borrow.Author.Needs.{needs}
 use Rattle.rules.proofs.linked.stands_against.Statement.{statement}
 use Rattle.rules.proofs.linked.stands_against.Tie as tie

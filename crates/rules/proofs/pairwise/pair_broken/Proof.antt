@@ -2,7 +2,8 @@
 use native.Mathlib.Omega.{arith}
 use mathlib.Core.Path.{_∙_}
 use Rattle.rules.specs.Tests.{ownTurned, remoteTurned, releaseSplit, bypassed}
-use Rattle.rules.proofs.Arms.{kept, left-out, rule9-is, rule10-is, rule12-is, rule14-is, other-rule}
+use Rattle.base.proofs.Bools.{kept, left-out}
+use Rattle.rules.proofs.Arms.{rule9-is, rule10-is, rule12-is, rule14-is, other-rule}
 use borrow.Author.Needs.{needs}
 use Rattle.rules.proofs.pairwise.pair_broken.Statement.{statement}
 use Rattle.rules.proofs.pairwise.pair_broken.Tie as tie
