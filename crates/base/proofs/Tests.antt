@@ -11,7 +11,7 @@ use lib.ListN.{length, getD}
 use borrow.Author.Tests.{not-true, not-false}
 use Rattle.base.specs.Lists.{all, any, count, below}
 use Rattle.base.specs.Below.{allBelow, anyBelow}
-use Rattle.base.proofs.Bools.{and-parts}
+use Rattle.base.proofs.Bools.{and-parts, split, clash, is-false}
 use Rattle.base.proofs.Lists.{any-append, any-map, any-and, any-and-after, below-more}
 
 module _ (p : ℕ → Bool) where
@@ -103,6 +103,15 @@ module _ (p : ℕ → Bool) where
   unfolding anyBelow
   any-below-same q zero e = refl
   any-below-same q (suc n) e = cc (any-below-same q n (λ k l. e k (omega arith)), e n (omega arith))
+
+  -- no test passes, or some does
+  pub none-at : (n : ℕ) → anyBelow n p ≡ false → (k : ℕ) → k < n → p k ≡ false
+  none-at n h k l = is-false (p k) (λ t. clash (any-passes n k l t) h)
+
+  pub some-at : (n : ℕ) → anyBelow n p ≡ true → (k : ℕ) × (k < n) × (p k ≡ true)
+  unfolding anyBelow
+  some-at zero h = clash h refl
+  some-at (suc n) h = split (anyBelow n p) (λ t. let (k, l, q) = some-at n t in (k, omega arith, q)) (λ f. (n, omega arith, sym (ap (λ (b : Bool). b || p n) f) ∙ h))
 
   -- a test of the numbers of `below`
   pub any-below : (n : ℕ) → any p (below n) ≡ anyBelow n p

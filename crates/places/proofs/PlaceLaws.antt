@@ -6,8 +6,8 @@ use native.Mathlib.Numerals.{add-one}
 use mathlib.Core.Path.{_≡_, refl, sym, ap, ap₂, _∙_, subst}
 use mathlib.Core.Bool.{Bool, true, false, not, cond, _&&_, _||_, and-false, false≢true}
 use mathlib.Core.List.{List, [], _∷_, _++_}
-use lib.ListN.{length, getD, set, take, drop, length-set, take-append-drop, replicate, getD-replicate}
-use lib.Seq.{getD-set-same, getD-set-other, take-suc, take-all, length-take-le}
+use lib.ListN.{length, getD, set, take, drop, length-set, length-append, take-append-drop, replicate, getD-replicate}
+use lib.Seq.{getD-set-same, getD-set-other, take-suc, take-all, length-take-le, take-append-seam, getD-append-seam}
 use lib.Dec.{eqb, ltb}
 use borrow.Author.Tests.{eq-eqb, ne-eqb, eqb-true, lt-ltb, le-ltb, ltb-false}
 use Rattle.base.specs.Lists.{member, distinct}
@@ -180,3 +180,25 @@ module _ {n : ℕ} {xs : List ℕ} {k : ℕ} {places : List ℕ} (inv : Placing-
 -- all entries are placed
 pub placing-done : {n k : ℕ} {xs places : List ℕ} → Placing-so-far n xs k places → length xs ≤ k → Placed n xs places
 placing-done {n} {k} {xs} {places} inv h = subst (λ (l : List ℕ). Placed n l places) (take-all k xs h) (inv .so-far)
+
+module _ {n : ℕ} {xs places : List ℕ} (h : Placed n xs places) where
+  -- an operation that does not stand has no place
+  pub placed-absent : (x : ℕ) → member xs x ≡ false → placed places x ≡ 255
+  placed-absent x new =
+      omega (
+        arith,
+        ltb-false (placed places x) 255 (sym (member-placed h x) ∙ new),
+        h .stands x,
+        place-top 0 xs x (omega (arith, placed-short h)),
+      )
+
+  -- an operation more, that did not stand
+  pub placed-append : length places ≡ 128 → (x : ℕ) → x < n → member xs x ≡ false → Placed n (xs ++ (x ∷ [])) (set places x (length xs))
+  placed-append long x low new =
+      subst (λ (l : List ℕ). Placed n l (set places x (length xs))) (take-all (length xs + 1) (xs ++ (x ∷ [])) (omega (arith, length-append xs (x ∷ []))))
+      (placing-more {xs = xs ++ (x ∷ [])} {k = length xs}
+      (record {
+        within = omega (arith, length-append xs (x ∷ []));
+        long = long;
+        so-far = subst (λ (l : List ℕ). Placed n l places) (sym (take-append-seam xs (x ∷ []))) h;
+      }) (omega (arith, length-append xs (x ∷ []))) x (sym (getD-append-seam xs x [] 0)) low (placed-absent x new) .so-far)

@@ -25,7 +25,7 @@ module _ {A : Type 0} where
 
 module _ (p : ℕ) where
   -- a store has LV and its RV, a load R
-  LV-role : (k : Kind) → isStore k ≡ true → List·Memᴰ LV (roles p k)
+  pub LV-role : (k : Kind) → isStore k ≡ true → List·Memᴰ LV (roles p k)
   unfolding roles
   LV-role ld h = absurd (false≢true h)
   LV-role ld-acq h = absurd (false≢true h)
@@ -33,7 +33,7 @@ module _ (p : ℕ) where
   LV-role st-rel h = List·Memᴰ·head refl
   LV-role mf h = absurd (false≢true h)
 
-  RV-role : (k : Kind) (q : ℕ) → q < p → isStore k ≡ true → List·Memᴰ (RV q) (roles p k)
+  pub RV-role : (k : Kind) (q : ℕ) → q < p → isStore k ≡ true → List·Memᴰ (RV q) (roles p k)
   unfolding roles
   RV-role ld q l h = absurd (false≢true h)
   RV-role ld-acq q l h = absurd (false≢true h)
@@ -41,7 +41,7 @@ module _ (p : ℕ) where
   RV-role st-rel q l h = List·Memᴰ·tail (Memᴰ·map RV (in-below p q l))
   RV-role mf q l h = absurd (false≢true h)
 
-  R-role : (k : Kind) → isLoad k ≡ true → List·Memᴰ R (roles p k)
+  pub R-role : (k : Kind) → isLoad k ≡ true → List·Memᴰ R (roles p k)
   unfolding roles
   R-role ld h = List·Memᴰ·head refl
   R-role ld-acq h = List·Memᴰ·head refl
@@ -75,7 +75,7 @@ module _ (p : ℕ) where
   one-instruction at n (k ∷ is) l (List·Memᴰ·tail m) (List·Memᴰ·tail m′) a h1 h2 h3 h4 =
       one-instruction (at + length (roles p (k .kind))) (suc n) is (l .2) m m′ a h1 h2 h3 h4
 
-load-no-store : (k : Kind) → isLoad k ≡ true → isStore k ≡ true → ⊥
+pub load-no-store : (k : Kind) → isLoad k ≡ true → isStore k ≡ true → ⊥
 load-no-store ld h s = false≢true s
 load-no-store ld-acq h s = false≢true s
 load-no-store st h s = false≢true h
@@ -97,11 +97,11 @@ module _ (e : Execution) where
   in-processors m = of-below (e .processors) m
 
   -- stores and loads are instructions
-  is-store : {w : Instruction} → List·Memᴰ w (stores e) → List·Memᴰ w (e .instructions) × (isStore (w .kind) ≡ true)
+  pub is-store : {w : Instruction} → List·Memᴰ w (stores e) → List·Memᴰ w (e .instructions) × (isStore (w .kind) ≡ true)
   unfolding stores
   is-store m = of-keep (λ i. isStore (i .kind)) (e .instructions) m
 
-  is-load : {l : Instruction} → List·Memᴰ l (loads e) → List·Memᴰ l (e .instructions) × (isLoad (l .kind) ≡ true)
+  pub is-load : {l : Instruction} → List·Memᴰ l (loads e) → List·Memᴰ l (e .instructions) × (isLoad (l .kind) ≡ true)
   unfolding loads
   is-load m = of-keep (λ i. isLoad (i .kind)) (e .instructions) m
 

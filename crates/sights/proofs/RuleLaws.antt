@@ -96,7 +96,7 @@ module _ (is : Instructions) (load address : ℕ) where
 
 module _ (x : Execution) (load address : ℕ) where
   -- the sight of a byte of a load
-  sight : Sight
+  unfoldable pub sight : Sight
   sight = sightOf (executionOf x) (instructionAt (x .instructions) load) address
 
   sight-writers : sight .writers ≡ writers (x .instructions) load address (below (x .instructions .count))
@@ -259,7 +259,7 @@ module _ {n : ℕ} {xs places : List ℕ} (h : Placed n xs places) where
       (ap₂ eqb (read-by x load (instructionAt (x .instructions) load .address + k)) (sight-seen x load k))
 
   -- the bytes of a load
-  load-by : (x : Execution) (i : ℕ)
+  pub load-by : (x : Execution) (i : ℕ)
       → (isLoad (instructionAt (x .instructions) i .kind)
       && any (broken xs) (map (λ b. sees (sight x i b)) (addresses (instructionAt (x .instructions) i))))
       ≡ loadBroken x places i

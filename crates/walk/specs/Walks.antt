@@ -1,0 +1,50 @@
+-- What the walk asks and promises.
+use Prim.Native.Nat.{ℕ, _<_, _≤_}
+use mathlib.Core.Path.{_≡_}
+use mathlib.Core.Bool.{Bool, true}
+use mathlib.Core.List.{List, [], _∷_, _++_}
+use mathlib.Core.Logic.{_⊎_}
+use lib.ListN.{length, take}
+use Rattle.base.specs.Lists.{member, distinct}
+use Rattle.base.specs.Lex.{Less}
+use Rattle.places.specs.Places.{Placed}
+use Rattle.sets.specs.Set.{setAt}
+use Rattle.admit.specs.Tables.{Tables, Tested}
+use Rattle.walk.specs.declared.WalkAnswer.{WalkAnswer}
+use Rattle.walk.specs.declared.WalkAnswer.the-variants.{Next, End}
+
+-- set j has the operations of the first j entries, up to `length`
+abbrev pub Levelled : List ℕ → List ℕ → ℕ → Type 0
+Levelled position stand size = (j a : ℕ) → j ≤ size → a < 128 → setAt stand j a ≡ member (take j position) a
+
+-- with a prefix each shorter one passes the test
+abbrev pub Closed : (List ℕ → Bool) → Type 0
+Closed c = (xs : List ℕ) (x : ℕ) → c (xs ++ (x ∷ [])) ≡ true → c xs ≡ true
+
+-- a prefix of different operations below n that passes the test
+abbrev pub Passes : (List ℕ → Bool) → ℕ → List ℕ → Type 0
+Passes c n xs = (c xs ≡ true) × (distinct n [] xs ≡ true)
+
+-- ys is the next that passes after xs: nothing that passes lies between
+pub record IsNext (c : List ℕ → Bool) (n : ℕ) (xs ys : List ℕ) : Type 0 where
+  pub passes : Passes c n ys
+  pub after : Less xs ys
+  pub first : (zs : List ℕ) → Passes c n zs → Less xs zs → (zs ≡ ys) ⊎ Less ys zs
+
+-- nothing that passes lies after xs
+abbrev pub IsLast : (List ℕ → Bool) → ℕ → List ℕ → Type 0
+IsLast c n xs = (zs : List ℕ) → Passes c n zs → Less xs zs → ⊥
+
+-- what an answer means, from xs
+abbrev pub Means : (List ℕ → Bool) → ℕ → List ℕ → WalkAnswer → List ℕ → Type 0
+Means c n xs (Next k) position = IsNext c n xs (take k position)
+Means c n xs End position = IsLast c n xs
+
+-- the position reached is ready to be walked from
+abbrev pub Ready : ℕ → WalkAnswer → List ℕ → List ℕ → List ℕ → Type 0
+Ready n (Next k) position places stand = (k ≤ n) × (length (take k position) ≡ k) × Placed n (take k position) places × Levelled position stand k
+Ready n End position places stand = Unit {0}
+
+pub record Walked (n : ℕ) (partners : List ℕ) (t : Tables) (xs : List ℕ) (r : WalkAnswer) (position places stand : List ℕ) : Type 0 where
+  pub ready : Ready n r position places stand
+  pub means : (c : List ℕ → Bool) → Tested c n partners t → Closed c → c xs ≡ true → Means c n xs r position
