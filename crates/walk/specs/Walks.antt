@@ -9,7 +9,8 @@ use Rattle.base.specs.Lists.{member, distinct}
 use Rattle.base.specs.Lex.{Less}
 use Rattle.places.specs.Places.{Placed}
 use Rattle.sets.specs.Set.{setAt}
-use Rattle.admit.specs.Tables.{Tables, Tested}
+use Rattle.admit.specs.Tables.{Tables}
+use Rattle.admit.specs.Fits.{Tested}
 use Rattle.walk.specs.declared.WalkAnswer.{WalkAnswer}
 use Rattle.walk.specs.declared.WalkAnswer.the-variants.{Next, End}
 
@@ -42,9 +43,9 @@ Means c n xs End position = IsLast c n xs
 
 -- the position reached is ready to be walked from
 abbrev pub Ready : ℕ → WalkAnswer → List ℕ → List ℕ → List ℕ → Type 0
-Ready n (Next k) position places stand = (k ≤ n) × (length (take k position) ≡ k) × Placed n (take k position) places × Levelled position stand k
+Ready n (Next k) position places stand = (k ≤ n) × (length position ≡ 128) × (length places ≡ 128) × Placed n (take k position) places × Levelled position stand k
 Ready n End position places stand = Unit {0}
 
-pub record Walked (n : ℕ) (partners : List ℕ) (t : Tables) (xs : List ℕ) (r : WalkAnswer) (position places stand : List ℕ) : Type 0 where
+pub record Walked (n : ℕ) (t : Tables) (xs : List ℕ) (r : WalkAnswer) (position places stand : List ℕ) : Type 0 where
   pub ready : Ready n r position places stand
-  pub means : (c : List ℕ → Bool) → Tested c n partners t → Closed c → c xs ≡ true → Means c n xs r position
+  pub means : (c : List ℕ → Bool) → Tested c n t → Closed c → c xs ≡ true → Means c n xs r position

@@ -1,13 +1,16 @@
 // The walk: from a consistent prefix that is not full to the next one in lexicographic order.
 ghost use mathlib.Core.Path.{_≡_};
-ghost use Prim.Native.Nat.{_<_, _≤_};
+ghost use Prim.Native.Nat.{ℕ, _<_, _≤_};
+ghost use lib.ListN as ListN;
 ghost use lib.ListN.{length, getD, set, take};
 ghost use Rattle.places.specs.Places.{Placed};
 ghost use Rattle.admit.specs.Tables.{tablesOf};
 ghost use Rattle.walk.specs.Walks.{Levelled, Walked};
 use admit::due_at;
 use admit::fits;
+use decoded::types::Execution;
 use decoded::types::wide;
+use links::operations::Operations;
 use places::ABSENT;
 use sets::at;
 use sets::insert;
@@ -45,23 +48,16 @@ pub fn walk(
     length: usize,
     places: &mut [u8; 128],
     stand: &mut [u64; 258],
-    partners: &[u64; 256],
+    e: Execution,
+    t: Operations,
+    marks: &[[u16; 40]; 40],
     preds: &[u64; 256],
-    owners: &[u8; 128],
-    roles: &[u8; 128],
-    firsts: &[u16; 40],
-    processors: &[u8; 40],
-    rivals: &[[u8; 40]; 40],
-    rival_counts: &[u8; 40],
-    writers: &[[u8; 40]; 64],
-    writer_counts: &[u8; 64],
-    addresses: &[u8; 40],
-    sizes: &[u8; 40],
-    data: &[u8; 320],
-    initial: &[u8; 64],
+    partners: &[u64; 256],
 ) -> WalkAnswer
     requires { ⌜ (n ≤ 128) × (length < n) × Placed n (take length (now position)) (now places) × Levelled (now position) (now stand) length ⌝ }
-    ensures { λ r. ⌜ Walked n (now (partners .entry)) (tablesOf (now (preds .entry)) (now (owners .entry)) (now (roles .entry)) (now (firsts .entry)) (now (processors .entry)) (now (rivals .entry)) (now («rival_counts» .entry)) (now (writers .entry)) (now («writer_counts» .entry)) (now (addresses .entry)) (now (sizes .entry)) (now («data» .entry)) (now (initial .entry))) (take length (now (position .entry))) r (now (position .exit)) (now (places .exit)) (now (stand .exit)) ⌝ }
+    requires { ⌜ (ListN.length (now position) ≡ 128) × (ListN.length (now places) ≡ 128) ⌝ }
+    requires { ⌜ (e .instructions .count ≤ 40) × (e .lines .count ≤ 8) × ((o : ℕ) → o < n → getD (t .owners) o 0 < 40) ⌝ }
+    ensures { λ r. ⌜ Walked n (tablesOf e t (now (marks .entry)) (now (preds .entry)) (now (partners .entry))) (take length (now (position .entry))) r (now (position .exit)) (now (places .exit)) (now (stand .exit)) ⌝ }
 {
     let mut k = length;
     let mut c = 0;
@@ -70,25 +66,7 @@ pub fn walk(
     let mut turn = 0;
     while turn < n * n {
         if c < n {
-            if fits(
-                c,
-                due,
-                standing,
-                preds,
-                owners,
-                roles,
-                firsts,
-                processors,
-                rivals,
-                rival_counts,
-                writers,
-                writer_counts,
-                addresses,
-                sizes,
-                data,
-                initial,
-                places,
-            ) {
+            if fits(c, k, due, standing, e, t, marks, preds, partners, places) {
                 // What fits does not stand. The table says so too, whatever the other tables hold.
                 if places[c] == ABSENT {
                     let size = k + 1;

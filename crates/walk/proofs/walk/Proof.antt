@@ -11,11 +11,11 @@ use Rattle.walk.proofs.walk.Statement.{statement}
 use Rattle.walk.proofs.walk.Tie as tie
 
 abbrev Inv-loop : tie.InvT-loop
-Inv-loop n position₀ length places₀ stand₀ partners preds owners roles firsts processors rivals rival-counts writers writer-counts addresses sizes «data» initial k₀ c₀ standing₀ due₀ turn₀ position places stand k c standing due turn =
-    Search n partners (tablesOf preds owners roles firsts processors rivals rival-counts writers writer-counts addresses sizes «data» initial) (take length position₀) length position places stand (standing .lo) (standing .hi) (due .lo) (due .hi) k c turn
+Inv-loop n position₀ length places₀ stand₀ e t marks preds partners k₀ c₀ standing₀ due₀ turn₀ position places stand k c standing due turn =
+    Search n (tablesOf e t marks preds partners) (take length position₀) length position places stand (standing .lo) (standing .hi) (due .lo) (due .hi) k c turn
 
 abbrev μ-loop : tie.MeasureT-loop
-μ-loop n position₀ length places₀ stand₀ partners preds owners roles firsts processors rivals rival-counts writers writer-counts addresses sizes «data» initial k₀ c₀ standing₀ due₀ turn₀ position places stand k c standing due turn =
+μ-loop n position₀ length places₀ stand₀ e t marks preds partners k₀ c₀ standing₀ due₀ turn₀ position places stand k c standing due turn =
     n * n - turn
 
 -- src/lib.rt:68:9
@@ -30,7 +30,7 @@ due-at-requires c κs = search needs
 loop-holds : tie.Need-loop-holds Inv-loop μ-loop
 loop-holds c =
     let s = c .before .before .before .before .before in
-    search-starts (record { few = s .pre .0; room = s .pre .1; start = refl; levels = s .pre .3 }) (s .pre .2) (c .before .before .at .ensures) (c .due-at .ensures)
+    search-starts (record { few = s .pre .0 .0; room = s .pre .0 .1; start = refl; levels = s .pre .0 .3; whole = s .pre .1 .0 .0 }) (s .pre .0 .2) (s .pre .1 .0 .1) (c .before .before .at .ensures) (c .due-at .ensures)
 
 -- src/lib.rt:71:18
 mul-loop : tie.Need-mul-loop Inv-loop μ-loop
@@ -38,7 +38,16 @@ mul-loop c = omega (arith, square (c .before .before .before .before .before .be
 
 -- src/lib.rt:73:16
 fits-requires : tie.Need-fits-requires Inv-loop μ-loop
-fits-requires c κs = search needs
+fits-requires c κs =
+    let pre = c .before .before .before .before .before .before .before .before .before .pre in
+    let at = c .before .before .before .loop in (
+      omega (arith, at .inv .from .few, c .before .if1 .taken),
+      omega (arith, at .inv .within, at .inv .from .room, at .inv .from .few),
+      pre .1 .1 .0,
+      pre .1 .1 .1,
+      pre .1 .1 .2 (at .c) (c .before .if1 .taken),
+      at .inv .long,
+    )
 
 -- src/lib.rt:93:20
 element-copy-out-if3 : tie.Need-element-copy-out-if3 Inv-loop μ-loop
