@@ -1,11 +1,11 @@
 -- Loops that write the entries of an array, one after the other.
-use Prim.Native.Nat.{ℕ, _+_, _<_}
+use Prim.Native.Nat.{ℕ, _+_, _≤_, _<_}
 use native.Mathlib.Omega.{arith}
 use native.Mathlib.Decide.{decLt}
 use mathlib.Core.Path.{_≡_, sym, _∙_, subst}
 use mathlib.Core.List.{List}
-use lib.ListN.{length, getD, set, length-set}
-use lib.Seq.{getD-set-same, getD-set-other}
+use lib.ListN.{length, getD, set, take, length-set}
+use lib.Seq.{getD-set-same, getD-set-other, getD-take, ext-getD, length-take-le}
 
 -- The invariant: each of the first k entries is as it should be.
 pub record Entered {A : Type 0} (size : ℕ) (d : A) (P : ℕ → A → Type 0) (k : ℕ) (x : List A) : Type 0 where
@@ -27,3 +27,11 @@ entered-more {A} {size} {d} {P} {k} {x} inv a room h = record {
     go i l (no m) =
         let e : i ≡ k = omega arith in
         subst (λ (j : ℕ). P j (getD (set x k a) j d)) (sym e) (subst (P k) (sym (getD-set-same x k a d (omega (arith, inv .long)))) h)
+
+-- entries copied from another list
+pub entered-copy : {A : Type 0} {size : ℕ} (d : A) (from : List A) (k : ℕ) (x : List A) → Entered size d (λ i a. a ≡ getD from i d) k x → k ≤ size → k ≤ length from
+    → take k x ≡ take k from
+entered-copy d from k x inv few there =
+    ext-getD d (take k x) (take k from) (length-take-le k x (omega (arith, inv .long)) ∙ sym (length-take-le k from there)) (λ i h.
+    let l : i < k = omega (arith, h, length-take-le k x (omega (arith, inv .long))) in
+    getD-take k x i d l ∙ inv .holds i l ∙ sym (getD-take k from i d l))

@@ -1,0 +1,5 @@
+-- The laws of this crate, open to the crates above it.
+pub mod Greater
+pub mod Onward
+pub mod LevelLaws
+pub mod Going

@@ -1,0 +1,3 @@
+// The search: the first legal order, in calls of any allowance, from a saved position.
+pub mod drive;
+pub mod position;
