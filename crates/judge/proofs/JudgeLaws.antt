@@ -1,6 +1,5 @@
 -- The judge after the record's questions is the judge; what an accepted execution gives the functions below.
 use Prim.Native.Nat.{ℕ}
-use native.Mathlib.Omega.{arith}
 use mathlib.Core.Path.{_≡_, refl, sym, ap, _∙_}
 use mathlib.Core.Bool.{Bool, true, false, cond}
 use mathlib.Core.List.{List, []}
@@ -10,30 +9,13 @@ use borrow.Author.Tests.{eq-eqb, ne-eqb}
 use mathlib.Core.Option.{Option}
 use Rattle.base.specs.Lists.{distinct}
 use Rattle.model.specs.Execution.{Execution, operationCount, operations}
-use Rattle.model.specs.Questions.{Found, no-to, found, Reader, next, ask, pure, readRecord}
+use Rattle.model.specs.Questions.{Found, Reader, next, ask, pure}
 use Rattle.model.specs.Rules.{lowestBroken}
 use Rattle.model.specs.Calls.{says, refuses, answerOf, readAll, Judgement, judgementOf, judging, judgeCall}
-use Rattle.model.proofs.Accepted.{Accepted, accepted}
+use Rattle.model.proofs.Accepted.{read-found, read-refused}
 use Rattle.decoded.specs.declared.types.Execution as decoded
 use Rattle.decoded.specs.Decoded.{instructionsOf, executionOf}
 use Rattle.judge.specs.Judgements.{judged}
-
--- a record that is accepted, or refused
-pub read-found : (bytes : List ℕ) (e : Execution) → readAll bytes ≡ says e → (rest : List ℕ) × (readRecord bytes ≡ found e rest)
-unfolding readAll answerOf
-read-found bytes e h = go (readRecord bytes) h
-  where
-    go : (f : Found Execution) → answerOf f ≡ says e → (rest : List ℕ) × (f ≡ found e rest)
-    go (no-to q) k = let z : _≡_ {A = ℕ} 0 1 = cc in absurd (omega arith)
-    go (found a rest) k = let z : a ≡ e = cc in (rest, ap (λ (d : Execution). found d rest) z)
-
-pub read-refused : (bytes : List ℕ) (q : ℕ) → readAll bytes ≡ refuses q → readRecord bytes ≡ no-to q
-unfolding readAll answerOf
-read-refused bytes q h = go (readRecord bytes) h
-  where
-    go : (f : Found Execution) → answerOf f ≡ refuses q → f ≡ no-to q
-    go (no-to k) m = let z : k ≡ q = cc in ap no-to z
-    go (found a rest) m = let z : _≡_ {A = ℕ} 0 1 = cc in absurd (omega arith)
 
 -- what follows the record's questions
 abbrev afterRecord : List ℕ → Execution → Reader Judgement
@@ -59,10 +41,6 @@ judge-accepted bytes order e h =
 pub judge-refused : (bytes order : List ℕ) (q : ℕ) → readAll bytes ≡ refuses q → refuses q ≡ judgeCall bytes order
 unfolding judgeCall judging next answerOf
 judge-refused bytes order q h = sym (ap (λ (r : Found Execution). answerOf (next r (afterRecord order))) (read-refused bytes q h))
-
--- the execution of an accepted record
-pub read-accepted : (bytes : List ℕ) (e : Execution) → readAll bytes ≡ says e → Accepted e
-read-accepted bytes e h = let (rest, f) = read-found bytes e h in accepted bytes e rest f
 
 -- Ways out of the judge after the record's questions
 

@@ -12,6 +12,7 @@ use Rattle.base.specs.Lists.{all}
 use Rattle.base.proofs.Bools.{split, and-parts}
 use Rattle.base.proofs.Lists.{member-in, all-member}
 use Rattle.model.specs.Execution.{Kind, kindOf, isFence, Instruction, Execution, roles, operationCount, operations, Line}
+use Rattle.model.specs.Calls.{says, refuses, answerOf, readAll}
 use Rattle.model.specs.Questions.{Found, no-to, found, Reader, next, item, byte, ask, many, question2, question3, question5, question7, question8, question11, question12, question13, instructionOf, readLine, readLines, readInstruction, readProgram, readPrograms, readInstructions, readPair, readPairs, question15, readRecord}
 
 -- Steps of a walk that found something
@@ -236,3 +237,26 @@ accepted bytes e rest h =
       sound = subst (Each (Sound p (length lines))) w (inv .1);
       rising = pairs-rise is b4 pairs b5 e5;
     }))))))))))
+
+-- The reader's answer
+
+-- a record that is accepted, or refused
+pub read-found : (bytes : List ℕ) (e : Execution) → readAll bytes ≡ says e → (rest : List ℕ) × (readRecord bytes ≡ found e rest)
+unfolding readAll answerOf
+read-found bytes e h = go (readRecord bytes) h
+  where
+    go : (f : Found Execution) → answerOf f ≡ says e → (rest : List ℕ) × (f ≡ found e rest)
+    go (no-to q) k = let z : _≡_ {A = ℕ} 0 1 = cc in absurd (omega arith)
+    go (found a rest) k = let z : a ≡ e = cc in (rest, ap (λ (d : Execution). found d rest) z)
+
+pub read-refused : (bytes : List ℕ) (q : ℕ) → readAll bytes ≡ refuses q → readRecord bytes ≡ no-to q
+unfolding readAll answerOf
+read-refused bytes q h = go (readRecord bytes) h
+  where
+    go : (f : Found Execution) → answerOf f ≡ refuses q → f ≡ no-to q
+    go (no-to k) m = let z : k ≡ q = cc in ap no-to z
+    go (found a rest) m = let z : _≡_ {A = ℕ} 0 1 = cc in absurd (omega arith)
+
+-- the execution of an accepted record
+pub read-accepted : (bytes : List ℕ) (e : Execution) → readAll bytes ≡ says e → Accepted e
+read-accepted bytes e h = let (rest, f) = read-found bytes e h in accepted bytes e rest f

@@ -3,7 +3,7 @@ use Prim.Native.Nat.{ℕ, suc, _≤_}
 use mathlib.Core.Path.{_≡_}
 use mathlib.Core.Bool.{true, cond}
 use mathlib.Core.List.{List, [], _∷_}
-use lib.ListN.{getD}
+use lib.ListN.{length, getD}
 use lib.Dec.{eqb, ltb}
 use Rattle.base.specs.Lists.{distinct}
 use Rattle.places.specs.declared.Placing.{Placing}
@@ -26,4 +26,5 @@ pub record Placed (n : ℕ) (xs places : List ℕ) : Type 0 where
 -- what placing the operations of an order, of n, comes to
 pub record Placement (n : ℕ) (xs : List ℕ) (r : Placing) : Type 0 where
   pub told : r .distinct ≡ distinct n [] xs
+  pub long : length (r .places) ≡ 128
   pub places : r .distinct ≡ true → Placed n xs (r .places)

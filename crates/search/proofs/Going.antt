@@ -67,6 +67,9 @@ module _ {n : ℕ} {t : Tables} {given : List ℕ} {allowance : ℕ} {levels ent
     size-taken : length (take size entries′) ≡ size
     size-taken = let (f, w, l, p, s) = known e .ready in length-take-le size entries′ (omega (arith, f, w, inv .few))
 
+    pub going-whole : length entries′ ≡ 128
+    going-whole = known e .ready .1
+
     -- the next prefix is full
     pub going-found : made < allowance → size ≡ n → Comes n t given allowance (record { verdict = allowed; steps = made + 1; position = take size entries′ })
     going-found l full c tested closed passes =

@@ -3,3 +3,4 @@ pub mod Greater
 pub mod Onward
 pub mod LevelLaws
 pub mod Going
+pub mod CallLaws

@@ -1,3 +1,4 @@
 -- The definitions of this crate.
 pub mod Positions
 pub mod Replies
+pub mod Calls

@@ -67,7 +67,7 @@ pub fn drive(
     requires { ⌜ (n ≤ 128) × (given .length < n) × Placed n (positionOf given) placed × (ListN.length (given .entries) ≡ 128) × (ListN.length placed ≡ 128) ⌝ }
     requires { ⌜ (e .instructions .count ≤ 40) × (e .lines .count ≤ 8) × ((o : ℕ) → o < n → getD (t .owners) o 0 < 40) ⌝ }
     ensures { λ r. ⌜ ((c : List ℕ → Bool) → Tested c n (tablesOf e t (now (marks .entry)) (now (preds .entry)) (now (partners .entry))) → Closed c → c (positionOf given) ≡ true → outcomeOf r ≡ searchFrom n c (positionOf given) allowance) ⌝ }
-    ensures { λ r. ⌜ r .position .length ≤ n ⌝ }
+    ensures { λ r. ⌜ (r .position .length ≤ n) × (ListN.length (r .position .entries) ≡ 128) ⌝ }
 {
     let mut levels = levels_of(given);
     let mut entries = given.entries;

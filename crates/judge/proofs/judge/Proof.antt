@@ -2,7 +2,8 @@
 use mathlib.Core.Path.{_∙_, ap}
 use Rattle.decoded.specs.Decoded.{executionOf}
 use Rattle.format.specs.Readings.{answerMeant}
-use Rattle.judge.proofs.JudgeLaws.{judge-accepted, judge-refused, read-accepted}
+use Rattle.judge.proofs.JudgeLaws.{judge-accepted, judge-refused}
+use Rattle.model.proofs.Accepted.{read-accepted}
 use borrow.Author.Needs.{needs}
 use Rattle.judge.proofs.judge.Statement.{statement}
 use Rattle.judge.proofs.judge.Tie as tie

@@ -30,6 +30,7 @@ wide-requires c κs = search needs
 -- src/lib.rt:44:13
 returns : tie.Need-returns Inv-loop μ-loop
 returns c = record {
+  long = c .before .before .before .before .loop .inv .1 .long;
   told = sym (placing-large (c .before .before .before .before .loop .inv .1) (c .before .before .before .loop-test .taken) (c .before .wide .result) (c .before .wide .ensures .0) (c .if1 .taken));
   places = λ h. absurd (false≢true h);
 }
@@ -41,6 +42,7 @@ array-read-if2 c = search needs
 -- src/lib.rt:50:13
 returns-2 : tie.Need-returns-2 Inv-loop μ-loop
 returns-2 c = record {
+  long = c .before .before .before .before .before .loop .inv .1 .long;
   told = sym (placing-twice (c .before .before .before .before .before .loop .inv .1) (c .before .before .before .before .loop-test .taken) (c .before .before .wide .result) (c .before .before .wide .ensures .0) (λ h. c .if2 .taken (sym (placed-there (c .before .before .before .before .before .loop .places) (c .before .before .wide .result) (omega arith)) ∙ h)));
   places = λ h. absurd (false≢true h);
 }
@@ -72,7 +74,7 @@ loop-again c = (
 returns-3 : tie.Need-returns-3 Inv-loop μ-loop
 returns-3 c =
     let stands = placing-done (c .before .loop .inv .1) (c .loop-test .left) in
-    record { told = sym (stands .apart); places = λ h. stands }
+    record { told = sym (stands .apart); long = c .before .loop .inv .1 .long; places = λ h. stands }
 
 pub place-all-spec : {M : Type 1} → statement M
 place-all-spec =

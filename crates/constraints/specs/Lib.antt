@@ -1,0 +1,2 @@
+-- What the sets of operations hold, by the tables.
+pub mod Rows
