@@ -3,7 +3,8 @@
 use std::path::Path;
 
 fn main() {
-    let folder = concat!(env!("CARGO_MANIFEST_DIR"), "/../target/staticlib");
+    let package = std::env::var("CARGO_MANIFEST_DIR").expect("cargo names the package's folder");
+    let folder = format!("{package}/../target/staticlib");
     let archive = format!("{folder}/libcapi.a");
     println!("cargo:rerun-if-changed={archive}");
     assert!(

@@ -9,6 +9,12 @@ mod exported {
             order: *const u8,
             entries: usize,
         ) -> u32;
+        pub fn oglindesh_chains(
+            bytes: *const u8,
+            length: usize,
+            table: *mut u8,
+            room: usize,
+        ) -> u32;
     }
 }
 
@@ -73,4 +79,42 @@ pub fn judge(record: &[u8], order: &[u8]) -> Result<Judgement, u8> {
 /// The rule of a number that says 'breaks'.
 fn rule(number: u32) -> u8 {
     u8::try_from(number).expect("a broken rule is its number")
+}
+
+/// Writes the chain table of a record's N operations to the front of `table`; where a question refuses it, the number of the
+/// first that it fails.
+///
+/// The byte at a × N + b becomes 1 where one or more links of rules 1 to 8 and 13 lead from operation a to operation b, else 0.
+/// Bytes past N × N stay as they are; at a refusal all do.
+///
+/// ```
+/// use oglindesh::proved::chain_table;
+///
+/// // One processor, one WB line of zeros, two mf: the first is linked to the second.
+/// let mut record = vec![1, 1];
+/// record.extend([0; 9]);
+/// record.push(2);
+/// record.extend([4, 0, 0, 0, 0, 0, 0, 0, 0, 0, 0]);
+/// record.extend([4, 0, 0, 0, 0, 0, 0, 0, 0, 0, 0]);
+/// record.push(0);
+/// let mut table = [7; 5];
+/// assert_eq!(chain_table(&record, &mut table[..3]), Err(22));
+/// assert_eq!(table, [7; 5]);
+/// assert_eq!(chain_table(&record, &mut table), Ok(()));
+/// assert_eq!(table, [0, 1, 0, 0, 7]);
+/// ```
+pub fn chain_table(record: &[u8], table: &mut [u8]) -> Result<(), u8> {
+    // SAFETY: each pointer and the length after it are those of one slice. The call only reads the record, and the table is
+    // lent to it alone.
+    match unsafe {
+        exported::oglindesh_chains(
+            record.as_ptr(),
+            record.len(),
+            table.as_mut_ptr(),
+            table.len(),
+        )
+    } {
+        0 => Ok(()),
+        number => Err(question(number)),
+    }
 }

@@ -1,7 +1,12 @@
 -- Answers as numbers: 256 + q for a call that question q refuses.
 use Prim.Native.Nat.{ℕ, _+_}
 use Rattle.model.specs.Execution.{Execution}
-use Rattle.model.specs.Calls.{Answer, says, refuses, Judgement, legal, breaks}
+use mathlib.Core.Path.{_≡_}
+use mathlib.Core.List.{List}
+use Rattle.model.specs.Search.{Verdict, allowed, forbidden, unfinished}
+use Rattle.model.specs.Calls as calls
+use Rattle.capi.specs.declared.SearchReply.{SearchReply}
+use Rattle.model.specs.Calls.{Answer, says, refuses, Judgement, legal, breaks, Done, done}
 
 -- 0 for a record that is accepted
 abbrev pub checkNumber : Answer Execution → ℕ
@@ -13,3 +18,22 @@ abbrev pub judgeNumber : Answer Judgement → ℕ
 judgeNumber (says legal) = 0
 judgeNumber (says (breaks k)) = k
 judgeNumber (refuses q) = 256 + q
+
+-- 0 for a table that is written
+abbrev pub chainsNumber : Answer Done → ℕ
+chainsNumber (says done) = 0
+chainsNumber (refuses q) = 256 + q
+
+-- 0 unfinished, 1 allowed, 2 forbidden
+abbrev pub searchNumber : Answer Verdict → ℕ
+searchNumber (says unfinished) = 0
+searchNumber (says allowed) = 1
+searchNumber (says forbidden) = 2
+searchNumber (refuses q) = 256 + q
+
+-- the reply as numbers, and the buffer as it is left
+pub record Searched (call : calls.SearchReply) (r : SearchReply) (buffer : List ℕ) : Type 0 where
+  pub answer-is : r .answer ≡ searchNumber (call .answer)
+  pub steps-are : r .steps ≡ call .steps
+  pub length-is : r .length ≡ call .length
+  pub buffer-is : buffer ≡ call .buffer

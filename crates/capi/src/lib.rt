@@ -1,9 +1,11 @@
 // The calls open to C and Rust: each answer as a number. A slice passes as a pointer, then its length.
 ghost use mathlib.Core.Path.{_≡_};
-ghost use Rattle.model.specs.Calls.{readAll, judgeCall};
-ghost use Rattle.capi.specs.Numbers.{checkNumber, judgeNumber};
+ghost use Rattle.model.specs.Calls.{readAll, judgeCall, tableCall, searchCall};
+ghost use Rattle.capi.specs.Numbers.{checkNumber, judgeNumber, chainsNumber, Searched};
+use chain_table::TableAnswer;
 use format::reader::Answer;
 use judge::Judgement;
+use search::call::SearchAnswer;
 
 // Whether a record passes questions 1 to 15: 0, or 256 + the first question that fails.
 #[no_mangle]
@@ -28,5 +30,64 @@ pub extern "C" fn oglindesh_judge(bytes: &[u8], order: &[u8]) -> u32
         Judgement::Refused(q) => 256 + q as u32,
         Judgement::Legal => 0,
         Judgement::Breaks(rule) => rule as u32,
+    }
+}
+
+// Writes the chain table: 0, or 256 + the first question that fails.
+#[no_mangle]
+pub extern "C" fn oglindesh_chains(bytes: &[u8], table: &mut [u8]) -> u32
+    ensures { λ r. ⌜ (r ≡ chainsNumber ((tableCall (now (bytes .entry)) (now (table .entry))) .answer)) × (now (table .exit) ≡ (tableCall (now (bytes .entry)) (now (table .entry))) .table) ⌝ }
+{
+    let answer = chain_table::chain_table(bytes, table);
+    match answer {
+        TableAnswer::Done => 0,
+        TableAnswer::Refused(q) => 256 + q as u32,
+    }
+}
+
+// The answer as a number, the steps made, and the length of the position that is left at the front of the buffer.
+#[repr(C)]
+pub struct SearchReply {
+    pub answer: u32,
+    pub steps: u32,
+    pub length: usize,
+}
+
+// Searches on from the position of the first `saved` entries of the buffer. The answer is 0 unfinished, 1 allowed, 2 forbidden; 256 + the first question
+// that fails.
+#[no_mangle]
+pub extern "C" fn oglindesh_search(
+    bytes: &[u8],
+    buffer: &mut [u8],
+    saved: usize,
+    allowance: u32,
+) -> SearchReply
+    ensures { λ r. ⌜ Searched (searchCall (now (bytes .entry)) (now (buffer .entry)) saved allowance) r (now (buffer .exit)) ⌝ }
+{
+    let reply = search::call::search(bytes, buffer, saved, allowance);
+    let found = reply.answer;
+    let steps = reply.steps;
+    let length = reply.length;
+    match found {
+        SearchAnswer::Unfinished => SearchReply {
+            answer: 0,
+            steps,
+            length,
+        },
+        SearchAnswer::Allowed => SearchReply {
+            answer: 1,
+            steps,
+            length,
+        },
+        SearchAnswer::Forbidden => SearchReply {
+            answer: 2,
+            steps,
+            length,
+        },
+        SearchAnswer::Refused(q) => SearchReply {
+            answer: 256 + q as u32,
+            steps,
+            length,
+        },
     }
 }

@@ -4,14 +4,14 @@ use native.Mathlib.Omega.{arith}
 use mathlib.Core.Path.{_≡_, refl, sym, ap, ap₂, _∙_, subst}
 use mathlib.Core.Bool.{Bool, true, false, not, cond, _||_}
 use mathlib.Core.List.{List, [], _∷_, _++_}
-use mathlib.Core.Option.{Option, none, some}
+use mathlib.Core.Option.{Option, some}
 use lib.ListN.{length, take, drop, take-append-drop}
 use lib.Seq.{paste, length-take-le}
 use lib.Dec.{leb}
 use borrow.Author.Tests.{le-leb, lt-leb}
 use Rattle.base.specs.Lists.{any, distinct}
 use Rattle.model.specs.Execution.{Execution, operationCount, operations}
-use Rattle.model.specs.Questions.{Found, found, no-to, Reader, next, ask, pure, readRecord}
+use Rattle.model.specs.Questions.{Found, Reader, next, ask, pure}
 use Rattle.model.specs.Rules.{Claim, rules, broken, keeps, consistent, lowestFrom, lowestBroken}
 use Rattle.model.specs.Search.{Outcome, searchFrom, allowed}
 use Rattle.model.specs.Calls as calls

@@ -1,13 +1,12 @@
 -- The sets of a position's levels, made one after the other.
 use Prim.Native.Nat.{ℕ, zero, suc, _+_, _*_, _-_, _≤_, _<_}
 use native.Mathlib.Omega.{arith}
-use mathlib.Core.Path.{_≡_, refl, sym, ap, ap₂, _∙_, subst}
+use mathlib.Core.Path.{_≡_, refl, ap, ap₂, _∙_, subst}
 use mathlib.Core.Bool.{Bool, true, false, not, cond, _&&_, _||_}
 use mathlib.Core.List.{List, [], _∷_, _++_}
-use lib.ListN.{length, getD, set, take, length-set, replicate, getD-replicate}
+use lib.ListN.{length, getD, set, take, length-set, replicate}
 use lib.Seq.{set-getD, getD-take, length-take-le}
 use lib.Dec.{eqb, ltb}
-use native.Mathlib.Numerals.{add-one}
 use borrow.Author.Tests.{ltb-true}
 use Rattle.base.specs.Lists.{member, distinct}
 use Rattle.base.proofs.Bools.{and-parts}

@@ -6,7 +6,7 @@ use oglindesh::examples::eight_processors;
 use oglindesh::proved;
 use oglindesh::reference::record::Execution;
 use oglindesh::reference::search::SearchAnswer;
-use oglindesh::reference::{fast, rules};
+use oglindesh::reference::{chains, fast, rules};
 
 /// The mean time of a call in microseconds.
 fn microseconds(rounds: u32, mut call: impl FnMut()) -> f64 {
@@ -25,10 +25,9 @@ fn legal_order(execution: &Execution) -> Vec<u8> {
     buffer[..reply.length].to_vec()
 }
 
-fn main() {
-    let execution = eight_processors(14);
+fn judge_line(execution: &Execution) {
     let bytes = execution.to_bytes();
-    let order = legal_order(&execution);
+    let order = legal_order(execution);
     let proved = microseconds(1000, || {
         proved::judge(&bytes, &order).expect("the order is not refused");
     });
@@ -39,4 +38,25 @@ fn main() {
         "judge, {} operations: proved {proved:.1} us, plain Rust {reference:.1} us",
         order.len()
     );
+}
+
+fn chain_table_line(execution: &Execution) {
+    let bytes = execution.to_bytes();
+    let count = execution.operation_count();
+    let mut table = vec![0; count * count];
+    let proved = microseconds(1000, || {
+        proved::chain_table(&bytes, &mut table).expect("the table is not refused");
+    });
+    let reference = microseconds(1000, || {
+        chains::chain_table(&bytes, &mut table).expect("the table is not refused");
+    });
+    println!(
+        "chain table, {count} operations: proved {proved:.1} us, plain Rust {reference:.1} us"
+    );
+}
+
+fn main() {
+    let execution = eight_processors(14);
+    judge_line(&execution);
+    chain_table_line(&execution);
 }

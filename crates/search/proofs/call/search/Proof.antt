@@ -7,9 +7,6 @@ use Rattle.search.proofs.CallLaws.{search-accepted, search-refused, ref
 use borrow.Author.Needs.{needs}
 use Rattle.search.proofs.call.search.Statement.{statement}
 use Rattle.search.proofs.call.search.Tie as tie
-use Rattle.format.proofs.reader.read.Reads as read-reads
-use Rattle.search.proofs.call.refused.Reads as refused-reads
-use Rattle.search.proofs.call.search_execution.Reads as search-execution-reads
 
 read-requires : tie.Need-read-requires
 read-requires c κs = search needs

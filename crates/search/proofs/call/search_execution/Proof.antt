@@ -1,8 +1,7 @@
 -- Each way out: questions 18 to 21, a full position, and the search.
-use Prim.Native.Nat.{_≤_}
 use native.Mathlib.Omega.{arith}
-use mathlib.Core.Path.{_≡_, refl, sym, ap, _∙_}
-use mathlib.Core.Bool.{true, false, not}
+use mathlib.Core.Path.{refl, sym, ap, _∙_}
+use mathlib.Core.Bool.{not}
 use lib.ListN.{length, take}
 use lib.Seq.{length-take-le}
 use Rattle.search.specs.declared.call.SearchAnswer.the-variants.{Allowed}
@@ -15,13 +14,6 @@ use Rattle.search.proofs.CallLaws.{count-is, refused-reply, searched-18
 use borrow.Author.Needs.{needs}
 use Rattle.search.proofs.call.search_execution.Statement.{statement}
 use Rattle.search.proofs.call.search_execution.Tie as tie
-use Rattle.links.proofs.operations.operations_of.Reads as operations-of-reads
-use Rattle.marks.proofs.between.all_marks.Reads as all-marks-reads
-use Rattle.places.proofs.place_all.Reads as place-all-reads
-use Rattle.rules.proofs.lowest.lowest_broken.Reads as lowest-broken-reads
-use Rattle.search.proofs.call.is_broken.Reads as is-broken-reads
-use Rattle.search.proofs.call.refused.Reads as refused-reads
-use Rattle.search.proofs.call.search_on.Reads as search-on-reads
 
 operations-of-requires : tie.Need-operations-of-requires
 operations-of-requires c κs =

@@ -1,25 +1,19 @@
 -- The tables are made, the search runs in arrays of its own, and its position is written.
 use Prim.Native.Nat.{ℕ, _≤_}
 use native.Mathlib.Omega.{arith}
-use mathlib.Core.Path.{_≡_, refl, sym, ap, _∙_, subst}
+use mathlib.Core.Path.{refl, sym, ap, _∙_, subst}
 use mathlib.Core.List.{List}
 use lib.ListN.{length}
 use Rattle.model.specs.Rules.{rules, keeps}
 use Rattle.decoded.specs.Decoded.{executionOf}
 use Rattle.places.specs.Places.{Placed}
-use Rattle.links.proofs.CompiledLaws.{few-lines, few-instructions, few-operations, owner-there}
+use Rattle.links.proofs.CompiledLaws.{few-lines, few-instructions, owner-there}
 use Rattle.admit.specs.Tables.{tablesOf}
 use Rattle.search.specs.Positions.{positionOf}
 use Rattle.search.proofs.CallLaws.{consistent-closed, driven-reply, tested-keeps, keeps-is}
 use borrow.Author.Needs.{needs}
 use Rattle.search.proofs.call.search_on.Statement.{statement}
 use Rattle.search.proofs.call.search_on.Tie as tie
-use Rattle.constraints.proofs.partners_of.Reads as partners-of-reads
-use Rattle.constraints.proofs.preds_of.Reads as preds-of-reads
-use Rattle.search.proofs.call.answer_of.Reads as answer-of-reads
-use Rattle.search.proofs.drive.drive.Reads as drive-reads
-use Rattle.search.proofs.position.saved_position.Reads as saved-position-reads
-use Rattle.search.proofs.position.write_position.Reads as write-position-reads
 
 preds-of-requires : tie.Need-preds-of-requires
 preds-of-requires c κs = (c .before .pre .0 .1, c .before .pre .0 .0)

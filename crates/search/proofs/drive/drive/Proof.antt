@@ -1,7 +1,7 @@
 -- Each turn makes one step; the last walk sees whether anything is left.
 use Prim.Native.Nat.{_-_, _≤_}
 use native.Mathlib.Omega.{arith}
-use mathlib.Core.Path.{_≡_, refl, sym, _∙_}
+use mathlib.Core.Path.{_≡_}
 use lib.ListN as ListN
 use Rattle.admit.specs.Tables.{tablesOf}
 use Rattle.search.specs.Positions.{positionOf}
@@ -11,8 +11,6 @@ use native.Mathlib.Omega.{arith}
 use borrow.Author.Needs.{needs}
 use Rattle.search.proofs.drive.drive.Statement.{statement}
 use Rattle.search.proofs.drive.drive.Tie as tie
-use Rattle.search.proofs.drive.levels_of.Reads as levels-of-reads
-use Rattle.walk.proofs.walk.Reads as walk-reads
 
 abbrev Inv-loop : tie.InvT-loop
 Inv-loop n given allowance e t marks preds partners levels₀ entries₀ places₀ length₀ steps₀ levels entries places length steps = Going n (tablesOf e t marks preds partners) (positionOf given) allowance levels entries places length steps × (given .length ≤ n) × (ListN.length (given .entries) ≡ 128)

@@ -7,10 +7,6 @@ use native.Mathlib.Omega.{arith}
 use borrow.Author.Needs.{needs}
 use Rattle.search.proofs.drive.levels_of.Statement.{statement}
 use Rattle.search.proofs.drive.levels_of.Tie as tie
-use Rattle.decoded.proofs.types.wide.Reads as wide-reads
-use Rattle.sets.proofs.at.Reads as at-reads
-use Rattle.sets.proofs.insert.Reads as insert-reads
-use Rattle.sets.proofs.put.Reads as put-reads
 
 abbrev Inv-loop : tie.InvT-loop
 Inv-loop n entries levels₀ j₀ levels j = (j ≤ n) × Levels entries levels j

@@ -8,7 +8,6 @@ use native.Mathlib.Omega.{arith}
 use borrow.Author.Needs.{needs}
 use Rattle.search.proofs.position.saved_position.Statement.{statement}
 use Rattle.search.proofs.position.saved_position.Tie as tie
-use Rattle.search.proofs.position.Position.empty.Reads as empty-reads
 
 abbrev Inv-loop : tie.InvT-loop
 Inv-loop buffer saved begin entries₀ i₀ entries i = (i ≤ saved) × Entered 128 0 (λ j a. a ≡ getD buffer j 0) i entries
