@@ -1,9 +1,10 @@
 //! Each proved call beside the independent one: both are asked, and must answer alike.
 
 use crate::proved;
-use crate::proved::Judgement;
-use crate::reference::chains;
+use crate::proved::{Judgement, Verdict};
 use crate::reference::rules::{self, JudgeAnswer};
+use crate::reference::search::{SearchAnswer, SearchReply};
+use crate::reference::{chains, fast};
 
 /// What both judges say of an order.
 pub fn judge(bytes: &[u8], order: &[u8]) -> JudgeAnswer {
@@ -25,4 +26,31 @@ pub fn chain_table(bytes: &[u8], table: &mut [u8]) -> Result<(), u8> {
     assert_eq!(answer, expected, "record {bytes:?}, {} bytes", table.len());
     assert_eq!(table, other, "record {bytes:?}");
     answer
+}
+
+/// What the proved search says.
+fn proved_search(bytes: &[u8], buffer: &mut [u8], saved: usize, allowance: u32) -> SearchReply {
+    let reply = proved::search(bytes, buffer, saved, allowance);
+    SearchReply {
+        answer: match reply.answer {
+            Ok(Verdict::Unfinished) => SearchAnswer::Unfinished,
+            Ok(Verdict::Allowed) => SearchAnswer::Allowed,
+            Ok(Verdict::Forbidden) => SearchAnswer::Forbidden,
+            Err(question) => SearchAnswer::Refused(question),
+        },
+        steps: reply.steps,
+        length: reply.length,
+    }
+}
+
+/// What both searches say; they work on two copies of the same buffer, and leave the same. The independent one is the
+/// incremental one, which the reference's own tests hold to the brute force.
+pub fn search(bytes: &[u8], buffer: &mut [u8], saved: usize, allowance: u32) -> SearchReply {
+    let mut other = buffer.to_vec();
+    let expected = fast::search(bytes, &mut other, saved, allowance);
+    let reply = proved_search(bytes, buffer, saved, allowance);
+    let call = format_args!("record {bytes:?} from {saved}, {allowance} steps").to_string();
+    assert_eq!(reply, expected, "{call}");
+    assert_eq!(buffer, other, "{call}");
+    reply
 }

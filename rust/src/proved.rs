@@ -15,6 +15,22 @@ mod exported {
             table: *mut u8,
             room: usize,
         ) -> u32;
+        pub fn oglindesh_search(
+            bytes: *const u8,
+            length: usize,
+            buffer: *mut u8,
+            room: usize,
+            saved: usize,
+            allowance: u32,
+        ) -> SearchNumbers;
+    }
+
+    /// A reply as the library returns it.
+    #[repr(C)]
+    pub struct SearchNumbers {
+        pub answer: u32,
+        pub steps: u32,
+        pub length: usize,
     }
 }
 
@@ -116,5 +132,73 @@ pub fn chain_table(record: &[u8], table: &mut [u8]) -> Result<(), u8> {
     } {
         0 => Ok(()),
         number => Err(question(number)),
+    }
+}
+
+/// What a search says that is not refused.
+#[derive(Clone, Copy, PartialEq, Eq, Debug)]
+pub enum Verdict {
+    /// The allowance is used up, and more is to be searched: go on from the position that is left.
+    Unfinished,
+    /// The position that is left is the first legal order.
+    Allowed,
+    /// No legal order begins with the position given, nor comes after it.
+    Forbidden,
+}
+
+/// What a search call returns; the position's entries stand at the front of the buffer.
+#[derive(Clone, Copy, PartialEq, Eq, Debug)]
+pub struct SearchReply {
+    /// Where a question refuses the call, the number of the first that it fails.
+    pub answer: Result<Verdict, u8>,
+    pub steps: u32,
+    pub length: usize,
+}
+
+/// Searches on from the position of the first `saved` entries of `buffer`, with at most `allowance` steps.
+///
+/// A search begins with `saved` 0, and goes on with the length of the last reply. Bytes past the position that is left stay as
+/// they are; where the call is refused or forbids, all do.
+///
+/// ```
+/// use oglindesh::proved::{search, Verdict};
+///
+/// // One processor, one WB line of zeros, two mf: the first is linked to the second.
+/// let mut record = vec![1, 1];
+/// record.extend([0; 9]);
+/// record.push(2);
+/// record.extend([4, 0, 0, 0, 0, 0, 0, 0, 0, 0, 0]);
+/// record.extend([4, 0, 0, 0, 0, 0, 0, 0, 0, 0, 0]);
+/// record.push(0);
+/// let mut buffer = [7; 3];
+/// let first = search(&record, &mut buffer, 0, 1);
+/// assert_eq!((first.answer, first.steps, buffer), (Ok(Verdict::Unfinished), 1, [0, 7, 7]));
+/// let second = search(&record, &mut buffer, first.length, 9);
+/// assert_eq!((second.answer, second.steps, buffer), (Ok(Verdict::Allowed), 1, [0, 1, 7]));
+/// assert_eq!(search(&record, &mut buffer[..1], 0, 9).answer, Err(18));
+/// ```
+pub fn search(record: &[u8], buffer: &mut [u8], saved: usize, allowance: u32) -> SearchReply {
+    // SAFETY: each pointer and the length after it are those of one slice. The call only reads the record, and the buffer is
+    // lent to it alone.
+    let numbers = unsafe {
+        exported::oglindesh_search(
+            record.as_ptr(),
+            record.len(),
+            buffer.as_mut_ptr(),
+            buffer.len(),
+            saved,
+            allowance,
+        )
+    };
+    let answer = match numbers.answer {
+        0 => Ok(Verdict::Unfinished),
+        1 => Ok(Verdict::Allowed),
+        2 => Ok(Verdict::Forbidden),
+        number => Err(question(number)),
+    };
+    SearchReply {
+        answer,
+        steps: numbers.steps,
+        length: numbers.length,
     }
 }

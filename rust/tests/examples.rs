@@ -1,6 +1,6 @@
 //! Document 01's executions to hold it to, and the examples of the source documents.
 
-use oglindesh::beside::judge;
+use oglindesh::beside::{self, judge};
 use oglindesh::examples::{
     computations, eight_processors, k1, k1_uncacheable, lone_load, note_appendix_a,
     note_appendix_b, scope, table_12, Example, Mark,
@@ -10,9 +10,9 @@ use oglindesh::reference::rules::{lowest_broken, JudgeAnswer};
 use oglindesh::reference::search::{search, SearchAnswer, SearchReply};
 use oglindesh::reference::{fast, notation};
 
-/// A search call of either kind.
+/// A search call: by brute force, or the proved one beside the incremental one.
 type Search = fn(&[u8], &mut [u8], usize, u32) -> SearchReply;
-const SEARCHES: [Search; 2] = [search, fast::search];
+const SEARCHES: [Search; 2] = [search, beside::search];
 
 /// A byte that no operation number is, to see what a call writes.
 const UNTOUCHED: u8 = 0xee;
@@ -69,7 +69,7 @@ fn source_examples() {
         if example.name == "table 15" {
             continue;
         }
-        check(example, fast::search);
+        check(example, beside::search);
         let bytes = example.execution.to_bytes();
         let mut buffer = [0; 128];
         if fast::search(&bytes, &mut buffer, 0, ALLOWANCE).steps <= BRUTE_FORCE_STEPS {
@@ -147,7 +147,7 @@ fn limits_are_searched() {
         assert_eq!((reply.steps, buffer), (1, [0]));
     }
     let mut buffer = [UNTOUCHED; 128];
-    let reply = fast::search(&eight_processors(14).to_bytes(), &mut buffer, 0, 126);
+    let reply = beside::search(&eight_processors(14).to_bytes(), &mut buffer, 0, 126);
     assert_eq!(reply.answer, SearchAnswer::Allowed);
     assert!(buffer[..126].iter().copied().eq(0..126));
 }
@@ -160,7 +160,7 @@ fn table_12_needs_write_back() {
         line.attribute = oglindesh::reference::record::Attribute::Uncacheable;
     }
     let mut buffer = [0; 128];
-    let reply = fast::search(&uncacheable.to_bytes(), &mut buffer, 0, ALLOWANCE);
+    let reply = beside::search(&uncacheable.to_bytes(), &mut buffer, 0, ALLOWANCE);
     assert_eq!(reply.answer, SearchAnswer::Allowed);
 }
 

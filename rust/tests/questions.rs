@@ -1,7 +1,7 @@
 //! The questions 1 to 22 by hand: boundary values, and which of two comes first.
 
+use oglindesh::beside;
 use oglindesh::reference::chains::chain_table;
-use oglindesh::reference::fast;
 use oglindesh::reference::notation::{ld, mf, programs, st, X, Y};
 use oglindesh::reference::record::read;
 use oglindesh::reference::rules::{judge, JudgeAnswer};
@@ -179,7 +179,7 @@ fn offered_orders() {
 #[test]
 fn saved_positions() {
     let refused = |bytes: &[u8], buffer: &[u8], saved: usize| {
-        let replies = [search, fast::search].map(|search| {
+        let replies = [search, beside::search].map(|search| {
             let mut lent = buffer.to_vec();
             let reply = search(bytes, &mut lent, saved, 100);
             let refused = matches!(reply.answer, SearchAnswer::Refused(_));

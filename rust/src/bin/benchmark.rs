@@ -2,8 +2,9 @@
 
 use std::time::Instant;
 
-use oglindesh::examples::eight_processors;
+use oglindesh::examples::{eight_processors, note_appendix_b};
 use oglindesh::proved;
+use oglindesh::reference::notation::{ld, programs, st, X};
 use oglindesh::reference::record::Execution;
 use oglindesh::reference::search::SearchAnswer;
 use oglindesh::reference::{chains, fast, rules};
@@ -55,8 +56,60 @@ fn chain_table_line(execution: &Execution) {
     );
 }
 
+/// The nanoseconds that a step takes both ways, over steps from the empty position.
+fn search_line(name: &str, execution: &Execution, allowance: u32) {
+    let bytes = execution.to_bytes();
+    let mut buffer = [0; 128];
+    let steps = fast::search(&bytes, &mut buffer, 0, allowance).steps;
+    let rounds = (STEPS_TIMED / steps).max(1);
+    let proved = microseconds(rounds, || {
+        let reply = proved::search(&bytes, &mut buffer, 0, allowance);
+        assert_eq!(reply.steps, steps);
+    });
+    let reference = microseconds(rounds, || {
+        fast::search(&bytes, &mut buffer, 0, allowance);
+    });
+    let per_step = |time: f64| time * 1e3 / f64::from(steps);
+    println!(
+        "search, {name}, {} operations, {steps} steps: proved {:.1} ns a step, plain Rust {:.1} ns, ratio {:.2}",
+        execution.operation_count(),
+        per_step(proved),
+        per_step(reference),
+        proved / reference
+    );
+}
+
+/// Steps over which a search is timed.
+const STEPS_TIMED: u32 = 200_000;
+
+/// The note's table 15.
+fn table_15() -> Execution {
+    let named = note_appendix_b().into_iter().find(|e| e.name == "table 15");
+    named.expect("the note has a table 15").execution
+}
+
+/// Four processors that store to one byte and load it, so that each load overlaps every store; the last load forbids it all.
+fn overlapping_loads() -> Execution {
+    let p = |first: u8| {
+        [
+            st(X, first),
+            ld(X, first),
+            ld(X, first),
+            st(X, first + 1),
+            ld(X, first + 1),
+            ld(X, first + 1),
+        ]
+    };
+    let (p0, p1, p2) = (p(1), p(3), p(5));
+    let p3 = [ld(X, 0), ld(X, 0), ld(X, 9)];
+    programs(&[&p0, &p1, &p2, &p3]).build()
+}
+
 fn main() {
     let execution = eight_processors(14);
     judge_line(&execution);
     chain_table_line(&execution);
+    search_line("table 15", &table_15(), 100_000);
+    search_line("eight processors", &execution, 126);
+    search_line("overlapping loads", &overlapping_loads(), 100_000);
 }
