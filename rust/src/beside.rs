@@ -49,8 +49,13 @@ pub fn search(bytes: &[u8], buffer: &mut [u8], saved: usize, allowance: u32) -> 
     let mut other = buffer.to_vec();
     let expected = fast::search(bytes, &mut other, saved, allowance);
     let reply = proved_search(bytes, buffer, saved, allowance);
-    let call = format_args!("record {bytes:?} from {saved}, {allowance} steps").to_string();
-    assert_eq!(reply, expected, "{call}");
-    assert_eq!(buffer, other, "{call}");
+    assert_eq!(
+        reply, expected,
+        "record {bytes:?} from {saved}, {allowance} steps"
+    );
+    assert_eq!(
+        buffer, other,
+        "record {bytes:?} from {saved}, {allowance} steps"
+    );
     reply
 }

@@ -39,6 +39,7 @@ impl Shape {
         instructions: MAX_INSTRUCTIONS,
         operations: MAX_OPERATIONS,
     };
+    pub const ALL: [Shape; 3] = [Shape::TINY, Shape::SMALL, Shape::LARGE];
 }
 
 /// Most operations for which a random order is tried out to give the loads their values.

@@ -36,6 +36,11 @@ impl Random {
         self.next_u64() as u8
     }
 
+    /// So many bytes.
+    pub fn bytes(&mut self, length: usize) -> Vec<u8> {
+        (0..length).map(|_| self.byte()).collect()
+    }
+
     /// True once in `times` on the average.
     pub fn once_in(&mut self, times: usize) -> bool {
         self.below(times) == 0

@@ -12,8 +12,6 @@ use oglindesh::reference::notation::{ld, mf, programs, st, X};
 use oglindesh::reference::record::{read, Execution};
 use oglindesh::reference::rules::links;
 
-const SHAPES: [Shape; 3] = [Shape::TINY, Shape::SMALL, Shape::LARGE];
-
 /// How many tables each question refused; place 0 counts those that were written.
 struct Tally([usize; 23]);
 
@@ -25,7 +23,7 @@ impl Tally {
     /// Asks both for a table over random bytes of this length, and counts their answer. Past the marks, and all over at a
     /// refusal, the table is held to what it was.
     fn ask(&mut self, random: &mut Random, bytes: &[u8], length: usize) -> Vec<u8> {
-        let before: Vec<u8> = (0..length).map(|_| random.byte()).collect();
+        let before = random.bytes(length);
         let mut table = before.clone();
         let answer = chain_table(bytes, &mut table);
         self.0[usize::from(answer.err().unwrap_or(0))] += 1;
@@ -47,7 +45,7 @@ fn tables_agree_on_generated_records() {
     let mut tally = Tally::new();
     let (rounds, mut chains) = (3000, 0);
     for round in 0..rounds {
-        let execution = execution(&mut random, &SHAPES[round % 3]);
+        let execution = execution(&mut random, &Shape::ALL[round % 3]);
         let bytes = execution.to_bytes();
         let size = size(&bytes);
         let longer = size + random.between(1, 300);
@@ -77,7 +75,7 @@ fn tables_agree_on_damaged_records() {
     let mut random = Random::new(22);
     let mut tally = Tally::new();
     for round in 0..6000 {
-        let execution = execution(&mut random, &SHAPES[round % 3]);
+        let execution = execution(&mut random, &Shape::ALL[round % 3]);
         let bytes = damaged(&mut random, &execution);
         let size = size(&bytes);
         for length in [size, size.saturating_sub(1), size + random.below(20)] {

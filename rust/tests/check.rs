@@ -36,7 +36,7 @@ fn readers_agree_on_generated_records() {
     let mut random = Random::new(1);
     let mut tally = Tally::new();
     for round in 0..20_000 {
-        let shape = [Shape::TINY, Shape::SMALL, Shape::LARGE][round % 3];
+        let shape = Shape::ALL[round % 3];
         let execution = execution(&mut random, &shape);
         tally.ask(&execution.to_bytes());
         tally.ask(&damaged(&mut random, &execution));

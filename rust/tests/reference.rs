@@ -27,7 +27,7 @@ fn search_both(bytes: &[u8], buffer: &mut [u8], saved: usize, allowance: u32) ->
 #[test]
 fn written_records_are_read_back() {
     let mut random = Random::new(2);
-    for shape in [Shape::TINY, Shape::SMALL, Shape::LARGE] {
+    for shape in Shape::ALL {
         for _ in 0..300 {
             let e = execution(&mut random, &shape);
             assert_eq!(read(&e.to_bytes()), Ok(e));

@@ -8,8 +8,6 @@ use oglindesh::reference::rules::JudgeAnswer;
 use oglindesh::reference::search as brute;
 use oglindesh::reference::search::SearchAnswer;
 
-const SHAPES: [Shape; 3] = [Shape::TINY, Shape::SMALL, Shape::LARGE];
-
 /// How often each answer was given.
 #[derive(Default, Debug)]
 struct Tally {
@@ -28,11 +26,6 @@ impl Tally {
             SearchAnswer::Refused(question) => self.refused[usize::from(question)] += 1,
         }
     }
-}
-
-/// A buffer of random bytes.
-fn random_buffer(random: &mut Random, length: usize) -> Vec<u8> {
-    (0..length).map(|_| random.byte()).collect()
 }
 
 /// Steps of one record that are searched in parts.
@@ -61,11 +54,11 @@ fn parts_come_to_the_whole() {
     let mut random = Random::new(31);
     let mut tally = Tally::default();
     for round in 0..3000 {
-        let execution = execution(&mut random, &SHAPES[round % 3]);
+        let execution = execution(&mut random, &Shape::ALL[round % 3]);
         let bytes = execution.to_bytes();
         let count = execution.operation_count();
         let length = count + random.below(4);
-        let begun = random_buffer(&mut random, length);
+        let begun = random.bytes(length);
         let mut buffer = begun.clone();
         let (mut at, mut steps) = (0, 0);
         let answer = loop {
@@ -106,7 +99,7 @@ fn saved_positions_are_asked_about() {
     let mut random = Random::new(32);
     let mut tally = Tally::default();
     for round in 0..12000 {
-        let execution = execution(&mut random, &SHAPES[round % 3]);
+        let execution = execution(&mut random, &Shape::ALL[round % 3]);
         let bytes = match random.once_in(12) {
             true => damaged(&mut random, &execution),
             false => execution.to_bytes(),
@@ -121,7 +114,7 @@ fn saved_positions_are_asked_about() {
             1 => count,
             _ => count + random.below(9),
         };
-        let mut buffer = random_buffer(&mut random, length);
+        let mut buffer = random.bytes(length);
         let kept = position.len().min(length);
         buffer[..kept].copy_from_slice(&position[..kept]);
         let saved = match random.once_in(20) {
@@ -147,7 +140,7 @@ fn the_brute_force_agrees() {
         let execution = execution(&mut random, &Shape::SMALL);
         let bytes = execution.to_bytes();
         let position = consistent_prefix(&mut random, &execution);
-        let mut buffer = random_buffer(&mut random, 130);
+        let mut buffer = random.bytes(130);
         buffer[..position.len()].copy_from_slice(&position);
         let mut other = buffer.clone();
         let allowance = random.pick(&[0, 1, 5, 60]);
