@@ -1,3 +1,3 @@
--- The test of one operation more over tables.
-pub mod Tables
+-- The test of one operation more over compiled rows.
+pub mod Rows
 pub mod Fits

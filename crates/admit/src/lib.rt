@@ -1,31 +1,73 @@
-// The test of one operation more behind a consistent prefix, on compiled tables.
+// The test of one operation more behind a consistent prefix, on compiled rows.
 ghost use mathlib.Core.Path.{_≡_};
-ghost use mathlib.Core.Bool.{true, _&&_};
-ghost use Prim.Native.Nat.{ℕ, _<_, _≤_};
+ghost use mathlib.Core.Bool.{true, not, cond, _&&_, _||_};
+ghost use Prim.Native.Nat.{ℕ, _+_, _%_, _<_, _≤_};
 ghost use lib.ListN.{length, getD, set, take};
+ghost use Rattle.base.specs.Below.{allBelow};
+ghost use Rattle.base.specs.Bits.{bit};
 ghost use Rattle.sets.specs.Set.{holds};
-ghost use Rattle.admit.specs.Tables.{tablesOf};
-ghost use Rattle.admit.specs.Fits.{missingBy, dueOf, storeLost, loadLost, refusesBy, refused, misread, fitsBy};
-use decoded::kind::ROLE_R;
-use decoded::kind::ROLE_RV;
-use decoded::types::Execution;
-use decoded::types::Instructions;
+ghost use Rattle.admit.specs.Rows.{field, writtenBits, writtenWord, localOf, wordsWith};
+ghost use lib.Dec.{ltb};
+ghost use Rattle.admit.specs.Fits.{dueOf, same, waitsFor, refused, localBit, sees, fitsBy};
 use decoded::types::wide;
-use decoded::types::wide16;
-use links::operations::Operations;
-use marks::table::BYPASS;
-use marks::table::CONFLICT;
-use marks::table::both;
-use marks::table::either;
-use marks::table::has_mark;
-use places::ABSENT;
 use places::before;
-use places::place_of;
 use sets::Set;
-use sets::at;
+use sets::first;
 use sets::has;
+use sets::minus;
 use sets::subset;
-use sights::load_broken;
+
+// The words of a row, in their order.
+pub const PREDS: usize = 0;
+
+pub const PARTNERS: usize = 2;
+
+pub const RIVALS: usize = 4;
+
+pub const BYPASSES: usize = 6;
+
+pub const WRITTEN_BITS: usize = 8;
+
+pub const WRITTEN_DATA: usize = 9;
+
+pub const WRITTEN_WORD: usize = 10;
+
+pub const READ_BITS: usize = 11;
+
+pub const READ_DATA: usize = 12;
+
+pub const VISIBLE_WORD: usize = 13;
+
+pub const OWN_WORD: usize = 14;
+
+pub const OWN: usize = 15;
+
+pub const LOCAL: usize = 16;
+
+// Word f of the row of operation x.
+fn field_of(rows: &[u64; 2176], x: usize, f: usize) -> u64
+    requires { ⌜ (x < 128) × (f < 17) ⌝ }
+    ensures { λ r. ⌜ r ≡ field (now (rows .entry)) f x ⌝ }
+{
+    rows[17 * x + f]
+}
+
+// A word of memory; there are 128.
+fn word_at(words: &[u64; 128], at: u64) -> u64
+    ensures { λ r. ⌜ r ≡ getD (now (words .entry)) (at % 128) 0 ⌝ }
+{
+    words[(at % 128) as usize]
+}
+
+// The set in words f and f + 1 of the row of operation x.
+fn set_of(rows: &[u64; 2176], x: usize, f: usize) -> Set
+    requires { ⌜ (x < 128) × (f < 16) ⌝ }
+    ensures { λ r. ⌜ (r .lo ≡ field (now (rows .entry)) f x) × (r .hi ≡ field (now (rows .entry)) (f + 1) x) ⌝ }
+{
+    let lo = rows[17 * x + f];
+    let hi = rows[17 * x + (f + 1)];
+    Set { lo, hi }
+}
 
 // All operations.
 fn all() -> Set
@@ -37,17 +79,10 @@ fn all() -> Set
     }
 }
 
-// Whether an operation does not stand.
-fn missing(places: &[u8; 128], operation: usize) -> bool
-    ensures { λ r. ⌜ r ≡ missingBy (now (places .entry)) operation ⌝ }
-{
-    place_of(places, operation) >= ABSENT
-}
-
 // The operations of which one must follow the first k entries: the RVs of an st.rel to WB that is open, else all.
-pub fn due_at(position: &[u8; 128], k: usize, partners: &[u64; 256], stand: Set) -> Set
+pub fn due_at(position: &[u8; 128], k: usize, rows: &[u64; 2176], stand: Set) -> Set
     requires { ⌜ (k ≤ 128) × (k ≤ length (now position)) ⌝ }
-    ensures { λ r. ⌜ ((i : ℕ) → i < 128 → holds (r .lo) (r .hi) i ≡ dueOf (now (partners .entry)) (take k (now (position .entry))) (stand .lo) (stand .hi) i) ⌝ }
+    ensures { λ r. ⌜ ((i : ℕ) → i < 128 → holds (r .lo) (r .hi) i ≡ dueOf (now (rows .entry)) (take k (now (position .entry))) (stand .lo) (stand .hi) i) ⌝ }
 {
     if k == 0 {
         return all();
@@ -56,145 +91,133 @@ pub fn due_at(position: &[u8; 128], k: usize, partners: &[u64; 256], stand: Set)
     if last >= 128 {
         return all();
     }
-    let open = at(partners, last);
+    let open = set_of(rows, last, PARTNERS);
     if subset(open, stand) { all() } else { open }
 }
 
-// Rules 9 and 10: whether an RV to q of the store at `fw` must wait for an RV of the store at `fv`.
-fn store_lost(places: &[u8; 128], q: usize, fv: usize, pv: usize, fw: usize, pw: usize) -> bool
-    requires { ⌜ (q < 256) × (fv < 65536) × (pv < 256) × (fw < 65536) × (pw < 256) ⌝ }
-    ensures { λ r. ⌜ r ≡ storeLost (now (places .entry)) q fv pv fw pw ⌝ }
+// Whether operation x must wait for operation m, which does not stand.
+fn waits_for(rows: &[u64; 2176], places: &[u8; 128], x: usize, m: usize) -> bool
+    requires { ⌜ (x < 128) × (m < 128) ⌝ }
+    ensures { λ r. ⌜ r ≡ waitsFor (now (rows .entry)) (now (places .entry)) x m ⌝ }
 {
-    let own_v = 1 + fv + pv;
-    let own_w = 1 + fw + pw;
-    let remote_v = 1 + fv + q;
-    let later = both(before(places, own_v, own_w), missing(places, remote_v));
-    let turned = both(before(places, fv, fw), missing(places, own_v));
-    either(later, both(q == pw, both(pv == pw, turned)))
-}
-
-// Rule 14: whether an R must wait for the own RV of the store at `fv`.
-fn load_lost(places: &[u8; 128], fv: usize, pv: usize) -> bool
-    requires { ⌜ (fv < 65536) × (pv < 256) ⌝ }
-    ensures { λ r. ⌜ r ≡ loadLost (now (places .entry)) fv pv ⌝ }
-{
-    let own_v = 1 + fv + pv;
-    both(place_of(places, fv) < ABSENT, missing(places, own_v))
-}
-
-// Whether instruction v refuses an operation, with a role, of instruction w.
-fn refuses(
-    is: Instructions,
-    marks: &[[u16; 40]; 40],
-    role: u8,
-    w: usize,
-    v: usize,
-    places: &[u8; 128],
-) -> bool
-    requires { ⌜ (w < 40) × (v < 40) ⌝ }
-    ensures { λ r. ⌜ r ≡ refusesBy (now (places .entry)) is (now (marks .entry)) role w v ⌝ }
-{
-    let firsts = is.firsts;
-    let processors = is.processors;
-    let m = marks[v][w];
-    let fv = wide16(firsts[v]);
-    let pv = wide(processors[v]);
-    if role == ROLE_R {
-        if has_mark(m, BYPASS) {
-            return load_lost(places, fv, pv);
-        }
+    let own_m = field_of(rows, m, OWN) as usize;
+    let own_x = field_of(rows, x, OWN) as usize;
+    if before(places, own_m, own_x) {
+        return true;
+    }
+    if own_m != m {
         return false;
     }
-    if role < ROLE_RV {
+    if own_x != x {
         return false;
     }
-    if has_mark(m, CONFLICT) {
-        let q = wide(role - ROLE_RV);
-        return store_lost(places, q, fv, pv, wide16(firsts[w]), wide(processors[w]));
-    }
-    false
+    let local_m = field_of(rows, m, LOCAL) as usize;
+    let local_x = field_of(rows, x, LOCAL) as usize;
+    before(places, local_m, local_x)
 }
 
-// Whether some instruction refuses operation x.
-fn is_refused(
-    x: usize,
-    is: Instructions,
-    t: Operations,
-    marks: &[[u16; 40]; 40],
-    places: &[u8; 128],
-) -> bool
-    requires { ⌜ (x < 128) × (is .count ≤ 40) × (getD (t .owners) x 0 < 40) ⌝ }
-    ensures { λ r. ⌜ r ≡ refused (now (places .entry)) is t (now (marks .entry)) x ⌝ }
+// Rules 9, 10 and 14: whether operation x must wait for an operation that does not stand.
+fn is_refused(rows: &[u64; 2176], places: &[u8; 128], stand: Set, x: usize) -> bool
+    requires { ⌜ x < 128 ⌝ }
+    ensures { λ r. ⌜ r ≡ refused (now (rows .entry)) (now (places .entry)) (stand .lo) (stand .hi) x ⌝ }
 {
-    let n = is.count;
-    let owners = t.owners;
-    let roles = t.roles;
-    let w = wide(owners[x]);
-    let role = roles[x];
-    for v in 0..n {
-        if refuses(is, marks, role, w, v, places) {
+    let missing = minus(set_of(rows, x, RIVALS), stand);
+    let mut m = first(missing, 0);
+    while m < 128 {
+        if waits_for(rows, places, x, m) {
             return true;
         }
+        let from = m + 1;
+        m = first(missing, from);
     }
     false
 }
 
-// The places with operation x at place k.
-fn with_place(places: &[u8; 128], x: usize, k: usize) -> [u8; 128]
-    requires { ⌜ (x < 128) × (k < 256) × (length (now places) ≡ 128) ⌝ }
-    ensures { λ r. ⌜ r ≡ set (now (places .entry)) x k ⌝ }
+// The bits that the store of m wrote, where its LV stands.
+fn bits_of(rows: &[u64; 2176], stand: Set, m: usize) -> u64
+    requires { ⌜ m < 128 ⌝ }
+    ensures { λ r. ⌜ ((i : ℕ) → bit r i ≡ (ltb (localOf (now (rows .entry)) m) 128 && holds (stand .lo) (stand .hi) (localOf (now (rows .entry)) m) && bit (writtenBits (now (rows .entry)) m) i)) ⌝ }
 {
-    let mut copy = [0u8; 128];
-    for i in 0..128 {
-        copy[i] = places[i];
+    let local = field_of(rows, m, LOCAL) as usize;
+    if local >= 128 {
+        return 0;
     }
-    copy[x] = k as u8;
-    copy
+    if !has(stand, local) {
+        return 0;
+    }
+    field_of(rows, m, WRITTEN_BITS)
 }
 
-// Rule 11: whether x is the R of a load that would not see its bytes at place k.
-fn is_misread(x: usize, k: usize, e: Execution, t: Operations, places: &[u8; 128]) -> bool
-    requires { ⌜ (x < 128) × (k < 256) × (e .instructions .count ≤ 40) × (e .lines .count ≤ 8) × (getD (t .owners) x 0 < 40) × (length (now places) ≡ 128) ⌝ }
-    ensures { λ r. ⌜ r ≡ misread (now (places .entry)) e t k x ⌝ }
+// The bits that the R x reads from what its own processor wrote.
+fn local_bits(rows: &[u64; 2176], stand: Set, x: usize) -> u64
+    requires { ⌜ x < 128 ⌝ }
+    ensures { λ r. ⌜ ((i : ℕ) → bit r i ≡ localBit (now (rows .entry)) (stand .lo) (stand .hi) x i) ⌝ }
 {
-    let owners = t.owners;
-    let roles = t.roles;
-    if roles[x] != ROLE_R {
-        return false;
+    let missing = minus(set_of(rows, x, BYPASSES), stand);
+    let mut bits = 0;
+    let mut m = first(missing, 0);
+    while m < 128 {
+        bits |= bits_of(rows, stand, m);
+        let from = m + 1;
+        m = first(missing, from);
     }
-    let load = wide(owners[x]);
-    let with = with_place(places, x, k);
-    load_broken(e, &with, load)
+    bits
 }
 
-// Whether operation x may follow k operations: `stand` has them, `places` their places, `due` those of which one must follow.
-pub fn fits(
-    x: usize,
-    k: usize,
-    due: Set,
-    stand: Set,
-    e: Execution,
-    t: Operations,
-    marks: &[[u16; 40]; 40],
-    preds: &[u64; 256],
-    partners: &[u64; 256],
-    places: &[u8; 128],
-) -> bool
-    requires { ⌜ (x < 128) × (k < 256) × (e .instructions .count ≤ 40) × (e .lines .count ≤ 8) × (getD (t .owners) x 0 < 40) × (length (now places) ≡ 128) ⌝ }
-    ensures { λ r. ⌜ r ≡ (holds (due .lo) (due .hi) x && fitsBy (tablesOf e t (now (marks .entry)) (now (preds .entry)) (now (partners .entry))) (now (places .entry)) (stand .lo) (stand .hi) k x) ⌝ }
+// Whether what is seen, of `own` where `local` is set and of `visible` elsewhere, is `data` in some bits.
+fn agrees(own: u64, visible: u64, local: u64, data: u64, bits: u64) -> bool
+    ensures { λ r. ⌜ r ≡ allBelow 64 (λ (i : ℕ). not (bit bits i) || same (cond (bit local i) (bit own i) (bit visible i)) (bit «data» i)) ⌝ }
 {
-    if !has(due, x) {
+    let seen = (own & local) | (visible ^ (visible & local));
+    (seen ^ data) & bits == 0
+}
+
+// Rule 11: whether operation x reads what is recorded.
+fn reads_right(rows: &[u64; 2176], words: &[u64; 128], stand: Set, x: usize) -> bool
+    requires { ⌜ x < 128 ⌝ }
+    ensures { λ r. ⌜ r ≡ sees (now (rows .entry)) (stand .lo) (stand .hi) (now (words .entry)) x ⌝ }
+{
+    let bits = field_of(rows, x, READ_BITS);
+    if bits == 0 {
+        return true;
+    }
+    let local = local_bits(rows, stand, x);
+    let own = word_at(words, field_of(rows, x, OWN_WORD));
+    let visible = word_at(words, field_of(rows, x, VISIBLE_WORD));
+    agrees(own, visible, local, field_of(rows, x, READ_DATA), bits)
+}
+
+// Whether operation x, which does not stand, may follow: `stand` has the operations that stand, `places` their places, `words` what they wrote.
+pub fn fits(rows: &[u64; 2176], places: &[u8; 128], words: &[u64; 128], stand: Set, x: usize) -> bool
+    requires { ⌜ x < 128 ⌝ }
+    ensures { λ r. ⌜ r ≡ fitsBy (now (rows .entry)) (now (places .entry)) (stand .lo) (stand .hi) (now (words .entry)) x ⌝ }
+{
+    if !subset(set_of(rows, x, PREDS), stand) {
         return false;
     }
-    if has(stand, x) {
+    if is_refused(rows, places, stand, x) {
         return false;
     }
-    let before = at(preds, x);
-    if !subset(before, stand) {
-        return false;
-    }
-    if is_refused(x, e.instructions, t, marks, places) {
-        return false;
-    }
-    !is_misread(x, k, e, t, places)
+    reads_right(rows, words, stand, x)
+}
+
+// Writes what operation x writes, and answers with the word that was there.
+pub fn write(rows: &[u64; 2176], words: &mut [u64], x: usize) -> u64
+    requires { ⌜ (x < 128) × (length (now words) ≡ 128) ⌝ }
+    ensures { λ r. ⌜ (r ≡ getD (now (words .entry)) (writtenWord (now (rows .entry)) x) 0) × (now (words .exit) ≡ wordsWith (now (rows .entry)) (now (words .entry)) x) ⌝ }
+{
+    let at = (field_of(rows, x, WRITTEN_WORD) % 128) as usize;
+    let old = words[at];
+    let kept = old ^ (old & field_of(rows, x, WRITTEN_BITS));
+    words[at] = kept | field_of(rows, x, WRITTEN_DATA);
+    old
+}
+
+// Puts back the word that operation x wrote over.
+pub fn unwrite(rows: &[u64; 2176], words: &mut [u64], x: usize, old: u64)
+    requires { ⌜ (x < 128) × (length (now words) ≡ 128) ⌝ }
+    ensures { λ _. ⌜ now (words .exit) ≡ set (now (words .entry)) (writtenWord (now (rows .entry)) x) old ⌝ }
+{
+    let at = (field_of(rows, x, WRITTEN_WORD) % 128) as usize;
+    words[at] = old;
 }

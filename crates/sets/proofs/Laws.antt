@@ -1,6 +1,6 @@
 -- Laws of sets of two words. Assumes nothing.
 use mathlib.Core.Path.{_≡_, refl, sym, ap, ap₂, _∙_}
-use mathlib.Core.Bool.{Bool, true, false, not, _||_, _&&_, false≢true, true≢false, or-false}
+use mathlib.Core.Bool.{Bool, true, false, not, _||_, _&&_, false≢true, true≢false, or-false, cond}
 use mathlib.Core.Logic.{_⊎_, inl, inr, ⊎-elim}
 use Prim.Native.Nat.{ℕ, zero, suc, _+_, _-_, _*_, _/_, _%_, _^_, _<_, _≤_}
 use native.Mathlib.Nat.{one-mul, div-one, div-eq-of-lt, pow-suc, le-of-suc-le-suc, lt-of-lt-of-le, lt-of-le-of-lt}
@@ -83,6 +83,20 @@ xor-bit (suc zero) (suc zero) h g = refl
 xor-bit (suc (suc u)) v h g = absurd (omega arith)
 xor-bit zero (suc (suc v)) h g = absurd (omega arith)
 xor-bit (suc zero) (suc (suc v)) h g = absurd (omega arith)
+
+xor-two : (u v : ℕ) → u < 2 → v < 2 → eqb (bitXor u v) 1 ≡ cond (eqb u 1) (not (eqb v 1)) (eqb v 1)
+xor-two zero zero h g = refl
+xor-two zero (suc zero) h g = refl
+xor-two (suc zero) zero h g = refl
+xor-two (suc zero) (suc zero) h g = refl
+xor-two (suc (suc u)) v h g = absurd (omega arith)
+xor-two zero (suc (suc v)) h g = absurd (omega arith)
+xor-two (suc zero) (suc (suc v)) h g = absurd (omega arith)
+
+pub has-xor : (a b k : ℕ) → bit (bitXor a b) k ≡ cond (bit a k) (not (bit b k)) (bit b k)
+has-xor a b k =
+    ap (λ (x : ℕ). eqb (x % 2) 1) (xor-shr a b k)
+    ∙ (ap (λ (x : ℕ). eqb x 1) (xor-mod (a / 2 ^ k) (b / 2 ^ k) 1) ∙ xor-two (a / 2 ^ k % 2) (b / 2 ^ k % 2) (omega arith) (omega arith))
 
 -- the lowest set bit
 pub has-suc : (m i : ℕ) → bit m (suc i) ≡ bit (m / 2) i
@@ -284,7 +298,7 @@ insert-high lo hi i k h l =
     ∙ ap (λ (b : Bool). holds lo hi k || b) (single-high i k h))
 
 -- sets with nothing in common
-bits-zero : (m : ℕ) → m < 2 ^ 64 → ((k : ℕ) → k < 64 → bit m k ≡ false) → m ≡ 0
+pub bits-zero : (m : ℕ) → m < 2 ^ 64 → ((k : ℕ) → k < 64 → bit m k ≡ false) → m ≡ 0
 bits-zero m h f = same-bits 64 m 0 h (omega arith) (λ i l. f i l ∙ sym (zero-has i))
 
 or-zero : (a b : ℕ) → bitOr a b ≡ 0 → (k : ℕ) → (bit a k ≡ false) × (bit b k ≡ false)

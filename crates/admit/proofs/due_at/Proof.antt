@@ -11,7 +11,7 @@ all-requires c κs = search needs
 returns : tie.Need-returns
 returns c = λ i h.
     let a = c .before .before .args in
-    c .all .ensures i h ∙ due-start (a .partners .now) (a .position .now) (a .k) (a .stand .lo) (a .stand .hi) i (c .before .if1 .taken)
+    c .all .ensures i h ∙ due-start (a .rows .now) (a .position .now) (a .k) (a .stand .lo) (a .stand .hi) i (c .before .if1 .taken)
 
 sub-wide : tie.Need-sub-wide
 sub-wide c = search needs
@@ -28,10 +28,10 @@ all-requires-2 c κs = search needs
 returns-2 : tie.Need-returns-2
 returns-2 c = λ i h.
     let a = c .before .before .before .before .before .args in
-    c .all2 .ensures i h ∙ due-past (a .partners .now) (a .position .now) (a .k) (a .stand .lo) (a .stand .hi) i (c .before .before .wide .result) (c .before .before .before .before .if1 .left) (c .before .before .before .before .before .pre .1) (c .before .before .wide .ensures .0) (c .before .if2 .taken)
+    c .all2 .ensures i h ∙ due-past (a .rows .now) (a .position .now) (a .k) (a .stand .lo) (a .stand .hi) i (c .before .before .wide .result) (c .before .before .before .before .if1 .left) (c .before .before .before .before .before .pre .1) (c .before .before .wide .ensures .0) (c .before .if2 .taken)
 
-at-requires : tie.Need-at-requires
-at-requires c κs = search needs
+set-of-requires : tie.Need-set-of-requires
+set-of-requires c κs = search needs
 
 subset-requires : tie.Need-subset-requires
 subset-requires c κs = search needs
@@ -41,16 +41,16 @@ all-requires-3 c κs = search needs
 
 returns-3 : tie.Need-returns-3
 returns-3 c = λ i h.
-    let a = c .before .before .before .before .before .before .before .before .before .args in
+    let a = c .before .before .before .before .before .before .before .before .args in
     c .all3 .ensures i h
-    ∙ due-done (a .partners .now) (a .position .now) (a .k) (a .stand .lo) (a .stand .hi) i (c .before .before .before .before .before .before .wide .result) (c .before .before .before .before .before .before .before .before .if1 .left) (c .before .before .before .before .before .before .before .before .before .pre .1) (c .before .before .before .before .before .before .wide .ensures .0)
-    (c .before .before .before .at .ensures .0) (c .before .before .before .at .ensures .1) (c .before .before .before .before .before .if2 .left) (c .before .before .subset .ensures) (c .before .if3 .taken)
+    ∙ due-done (a .rows .now) (a .position .now) (a .k) (a .stand .lo) (a .stand .hi) i (c .before .before .before .before .before .wide .result) (c .before .before .before .before .before .before .before .if1 .left) (c .before .before .before .before .before .before .before .before .pre .1) (c .before .before .before .before .before .wide .ensures .0)
+    (c .before .before .before .set-of .ensures .0) (c .before .before .before .set-of .ensures .1) (c .before .before .before .before .if2 .left) (c .before .before .subset .ensures) (c .before .if3 .taken)
 
 returns-4 : tie.Need-returns-4
 returns-4 c = λ i h.
-    let a = c .before .before .before .before .before .before .before .before .args in
-    due-some (a .partners .now) (a .position .now) (a .k) (a .stand .lo) (a .stand .hi) i (c .before .before .before .before .before .wide .result) (c .before .before .before .before .before .before .before .if1 .left) (c .before .before .before .before .before .before .before .before .pre .1) (c .before .before .before .before .before .wide .ensures .0)
-    (c .before .before .at .ensures .0) (c .before .before .at .ensures .1) (c .before .before .before .before .if2 .left) (c .before .subset .ensures) (c .if3 .left)
+    let a = c .before .before .before .before .before .before .before .args in
+    due-some (a .rows .now) (a .position .now) (a .k) (a .stand .lo) (a .stand .hi) i (c .before .before .before .before .wide .result) (c .before .before .before .before .before .before .if1 .left) (c .before .before .before .before .before .before .before .pre .1) (c .before .before .before .before .wide .ensures .0)
+    (c .before .before .set-of .ensures .0) (c .before .before .set-of .ensures .1) (c .before .before .before .if2 .left) (c .before .subset .ensures) (c .if3 .left)
 
 pub due-at-spec : {M : Type 1} → statement M
 due-at-spec =
@@ -63,7 +63,7 @@ due-at-spec =
     wide-requires
     all-requires-2
     returns-2
-    at-requires
+    set-of-requires
     subset-requires
     all-requires-3
     returns-3
