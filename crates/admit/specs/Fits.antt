@@ -71,6 +71,6 @@ abbrev pub Standing : List ℕ → ℕ → ℕ → Type 0
 Standing xs lo hi = (a : ℕ) → a < 128 → holds lo hi a ≡ member xs a
 
 -- The rows test what a test of prefixes says: behind a prefix that passes it, an operation below n may follow exactly when it does not stand and the longer prefix passes.
-pub record Tested (c : List ℕ → Bool) (n : ℕ) (rows words : List ℕ) : Type 0 where
+pub record Tested (c : List ℕ → Bool) (n : ℕ) (rows : List ℕ) : Type 0 where
   pub one-more : (xs places : List ℕ) (lo hi x : ℕ) → c xs ≡ true → Placed n xs places → Standing xs lo hi → x < n
-      → (dueOf rows xs lo hi x && (not (holds lo hi x) && fitsBy rows places lo hi (wordsAfter rows words xs) x)) ≡ (not (member xs x) && c (xs ++ (x ∷ [])))
+      → (dueOf rows xs lo hi x && (not (holds lo hi x) && fitsBy rows places lo hi (wordsAfter rows xs) x)) ≡ (not (member xs x) && c (xs ++ (x ∷ [])))

@@ -1,9 +1,9 @@
--- What is compiled of each operation, seventeen words a row, and the words of memory that the search keeps.
+-- What is compiled of an execution: seventeen words a row for each operation, then the words of memory that the search starts from.
 use Prim.Native.Nat.{ℕ, _+_, _*_, _-_, _/_, _%_, _<_}
 use mathlib.Core.Path.{_≡_}
 use mathlib.Core.Bool.{Bool, true, false, cond, _&&_, _||_}
 use mathlib.Core.List.{List, [], _∷_}
-use lib.ListN.{getD, set}
+use lib.ListN.{getD, set, take, drop}
 use lib.Bits.{bitAnd, bitOr, bitXor}
 use lib.Dec.{eqb, leb, ltb}
 use Rattle.base.specs.Lists.{any, member}
@@ -85,10 +85,18 @@ abbrev pub wordsWith : List ℕ → List ℕ → ℕ → List ℕ
 wordsWith rows words x =
     set words (writtenWord rows x) (merged (getD words (writtenWord rows x) 0) (writtenBits rows x) (writtenData rows x))
 
--- the words after the operations of a prefix, in order
-unfoldable pub wordsAfter : List ℕ → List ℕ → List ℕ → List ℕ
-wordsAfter rows words [] = words
-wordsAfter rows words (x ∷ xs) = wordsAfter rows (wordsWith rows words x) xs
+-- the words after more operations, in order
+unfoldable pub wordsFrom : List ℕ → List ℕ → List ℕ → List ℕ
+wordsFrom rows words [] = words
+wordsFrom rows words (x ∷ xs) = wordsFrom rows (wordsWith rows words x) xs
+
+-- the words before any operation stand behind the rows
+abbrev pub firstWords : List ℕ → List ℕ
+firstWords rows = take 128 (drop 2176 rows)
+
+-- the words after the operations of a prefix
+abbrev pub wordsAfter : List ℕ → List ℕ → List ℕ
+wordsAfter rows xs = wordsFrom rows (firstWords rows) xs
 
 -- What the rows hold of an execution
 
@@ -166,15 +174,15 @@ module _ (x : Execution) (t : Operations) (marks : List (List ℕ)) (o : ℕ) wh
 abbrev pub Bytes : List ℕ → Type 0
 Bytes l = (j : ℕ) → getD l j 0 < 256
 
--- the words before any operation: in each the initial bytes of its line
-abbrev pub FirstWords : Execution → List ℕ → Type 0
-FirstWords x words =
+-- in each word before any operation are the initial bytes of its line
+abbrev pub Initial : Execution → List ℕ → Type 0
+Initial x words =
     (c i : ℕ) → c < 128 → i < 64 → bit (getD words c 0) i ≡ bit (getD (x .lines .initial) (8 * (c % 8) + i / 8) 0) (i % 8)
 
 -- the rows and the first words hold what they should of the execution
-pub record Holds (x : Execution) (t : Operations) (marks : List (List ℕ)) (rows words : List ℕ) : Type 0 where
+pub record Holds (x : Execution) (t : Operations) (marks : List (List ℕ)) (rows : List ℕ) : Type 0 where
   pub compiled : Compiled x t marks
   pub rowed : (o : ℕ) → o < operations (executionOf x) → RowOf x t marks o (λ f. field rows f o)
-  pub starts : FirstWords x words
+  pub starts : Initial x (firstWords rows)
   pub data-bytes : Bytes (x .instructions .bytes)
   pub initial-bytes : Bytes (x .lines .initial)

@@ -45,7 +45,7 @@ pub const OWN: usize = 15;
 pub const LOCAL: usize = 16;
 
 // Word f of the row of operation x.
-fn field_of(rows: &[u64; 2176], x: usize, f: usize) -> u64
+fn field_of(rows: &[u64; 2304], x: usize, f: usize) -> u64
     requires { ⌜ (x < 128) × (f < 17) ⌝ }
     ensures { λ r. ⌜ r ≡ field (now (rows .entry)) f x ⌝ }
 {
@@ -60,7 +60,7 @@ fn word_at(words: &[u64; 128], at: u64) -> u64
 }
 
 // The set in words f and f + 1 of the row of operation x.
-fn set_of(rows: &[u64; 2176], x: usize, f: usize) -> Set
+fn set_of(rows: &[u64; 2304], x: usize, f: usize) -> Set
     requires { ⌜ (x < 128) × (f < 16) ⌝ }
     ensures { λ r. ⌜ (r .lo ≡ field (now (rows .entry)) f x) × (r .hi ≡ field (now (rows .entry)) (f + 1) x) ⌝ }
 {
@@ -80,7 +80,7 @@ fn all() -> Set
 }
 
 // The operations of which one must follow the first k entries: the RVs of an st.rel to WB that is open, else all.
-pub fn due_at(position: &[u8; 128], k: usize, rows: &[u64; 2176], stand: Set) -> Set
+pub fn due_at(position: &[u8; 128], k: usize, rows: &[u64; 2304], stand: Set) -> Set
     requires { ⌜ (k ≤ 128) × (k ≤ length (now position)) ⌝ }
     ensures { λ r. ⌜ ((i : ℕ) → i < 128 → holds (r .lo) (r .hi) i ≡ dueOf (now (rows .entry)) (take k (now (position .entry))) (stand .lo) (stand .hi) i) ⌝ }
 {
@@ -96,7 +96,7 @@ pub fn due_at(position: &[u8; 128], k: usize, rows: &[u64; 2176], stand: Set) ->
 }
 
 // Whether operation x must wait for operation m, which does not stand.
-fn waits_for(rows: &[u64; 2176], places: &[u8; 128], x: usize, m: usize) -> bool
+fn waits_for(rows: &[u64; 2304], places: &[u8; 128], x: usize, m: usize) -> bool
     requires { ⌜ (x < 128) × (m < 128) ⌝ }
     ensures { λ r. ⌜ r ≡ waitsFor (now (rows .entry)) (now (places .entry)) x m ⌝ }
 {
@@ -117,7 +117,7 @@ fn waits_for(rows: &[u64; 2176], places: &[u8; 128], x: usize, m: usize) -> bool
 }
 
 // Rules 9, 10 and 14: whether operation x must wait for an operation that does not stand.
-fn is_refused(rows: &[u64; 2176], places: &[u8; 128], stand: Set, x: usize) -> bool
+fn is_refused(rows: &[u64; 2304], places: &[u8; 128], stand: Set, x: usize) -> bool
     requires { ⌜ x < 128 ⌝ }
     ensures { λ r. ⌜ r ≡ refused (now (rows .entry)) (now (places .entry)) (stand .lo) (stand .hi) x ⌝ }
 {
@@ -134,7 +134,7 @@ fn is_refused(rows: &[u64; 2176], places: &[u8; 128], stand: Set, x: usize) -> b
 }
 
 // The bits that the store of m wrote, where its LV stands.
-fn bits_of(rows: &[u64; 2176], stand: Set, m: usize) -> u64
+fn bits_of(rows: &[u64; 2304], stand: Set, m: usize) -> u64
     requires { ⌜ m < 128 ⌝ }
     ensures { λ r. ⌜ ((i : ℕ) → bit r i ≡ (ltb (localOf (now (rows .entry)) m) 128 && holds (stand .lo) (stand .hi) (localOf (now (rows .entry)) m) && bit (writtenBits (now (rows .entry)) m) i)) ⌝ }
 {
@@ -149,7 +149,7 @@ fn bits_of(rows: &[u64; 2176], stand: Set, m: usize) -> u64
 }
 
 // The bits that the R x reads from what its own processor wrote.
-fn local_bits(rows: &[u64; 2176], stand: Set, x: usize) -> u64
+fn local_bits(rows: &[u64; 2304], stand: Set, x: usize) -> u64
     requires { ⌜ x < 128 ⌝ }
     ensures { λ r. ⌜ ((i : ℕ) → bit r i ≡ localBit (now (rows .entry)) (stand .lo) (stand .hi) x i) ⌝ }
 {
@@ -173,7 +173,7 @@ fn agrees(own: u64, visible: u64, local: u64, data: u64, bits: u64) -> bool
 }
 
 // Rule 11: whether operation x reads what is recorded.
-fn reads_right(rows: &[u64; 2176], words: &[u64; 128], stand: Set, x: usize) -> bool
+fn reads_right(rows: &[u64; 2304], words: &[u64; 128], stand: Set, x: usize) -> bool
     requires { ⌜ x < 128 ⌝ }
     ensures { λ r. ⌜ r ≡ sees (now (rows .entry)) (stand .lo) (stand .hi) (now (words .entry)) x ⌝ }
 {
@@ -188,7 +188,7 @@ fn reads_right(rows: &[u64; 2176], words: &[u64; 128], stand: Set, x: usize) -> 
 }
 
 // Whether operation x, which does not stand, may follow: `stand` has the operations that stand, `places` their places, `words` what they wrote.
-pub fn fits(rows: &[u64; 2176], places: &[u8; 128], words: &[u64; 128], stand: Set, x: usize) -> bool
+pub fn fits(rows: &[u64; 2304], places: &[u8; 128], words: &[u64; 128], stand: Set, x: usize) -> bool
     requires { ⌜ x < 128 ⌝ }
     ensures { λ r. ⌜ r ≡ fitsBy (now (rows .entry)) (now (places .entry)) (stand .lo) (stand .hi) (now (words .entry)) x ⌝ }
 {
@@ -202,7 +202,7 @@ pub fn fits(rows: &[u64; 2176], places: &[u8; 128], words: &[u64; 128], stand: S
 }
 
 // Writes what operation x writes, and answers with the word that was there.
-pub fn write(rows: &[u64; 2176], words: &mut [u64], x: usize) -> u64
+pub fn write(rows: &[u64; 2304], words: &mut [u64], x: usize) -> u64
     requires { ⌜ (x < 128) × (length (now words) ≡ 128) ⌝ }
     ensures { λ r. ⌜ (r ≡ getD (now (words .entry)) (writtenWord (now (rows .entry)) x) 0) × (now (words .exit) ≡ wordsWith (now (rows .entry)) (now (words .entry)) x) ⌝ }
 {
@@ -214,7 +214,7 @@ pub fn write(rows: &[u64; 2176], words: &mut [u64], x: usize) -> u64
 }
 
 // Puts back the word that operation x wrote over.
-pub fn unwrite(rows: &[u64; 2176], words: &mut [u64], x: usize, old: u64)
+pub fn unwrite(rows: &[u64; 2304], words: &mut [u64], x: usize, old: u64)
     requires { ⌜ (x < 128) × (length (now words) ≡ 128) ⌝ }
     ensures { λ _. ⌜ now (words .exit) ≡ set (now (words .entry)) (writtenWord (now (rows .entry)) x) old ⌝ }
 {

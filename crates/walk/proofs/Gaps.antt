@@ -1,10 +1,11 @@
 -- The order theorem of the walk: nothing that passes lies between the prefix it started from and the point of its search.
-use Prim.Native.Nat.{ℕ, suc, _<_}
+use Prim.Native.Nat.{ℕ, zero, suc, _<_, _≤_}
+use native.Mathlib.Nat.{eq-or-lt-of-le}
 use native.Mathlib.Omega.{arith}
 use mathlib.Core.Path.{_≡_, sym, ap, _∙_, subst}
 use mathlib.Core.Bool.{Bool, true, false, not, _&&_}
 use mathlib.Core.List.{List, [], _∷_, _++_, append-nil}
-use mathlib.Core.Logic.{_⊎_, inl, inr}
+use mathlib.Core.Logic.{_⊎_, inl, inr, ⊎-elim}
 use lib.Dec.{ltb}
 use lib.Seq.{append-snoc}
 use borrow.Author.Tests.{ltb-true}
@@ -101,3 +102,12 @@ gap-next c n xs ys p l gap = record { passes = p; after = l; first = λ zs q h. 
     go : (zs : List ℕ) → Passes c n zs → Less xs zs → Less zs ys ⊎ ((zs ≡ ys) ⊎ Less ys zs) → (zs ≡ ys) ⊎ Less ys zs
     go zs q h (inl k) = absurd (gap zs q h k)
     go zs q h (inr k) = k
+
+-- the candidates from x on are refused, up to y
+pub gap-skip : (c : List ℕ → Bool) (n : ℕ) → Closed c → (xs s : List ℕ) (x y : ℕ) → x ≤ y
+    → ((i : ℕ) → x ≤ i → i < y → (not (member s i) && c (s ++ (i ∷ []))) ≡ false) → Gap c n xs (s ++ x ∷ []) → Gap c n xs (s ++ y ∷ [])
+gap-skip c n cl xs s x zero l none gap = subst (λ (i : ℕ). Gap c n xs (s ++ i ∷ [])) (omega arith) gap
+gap-skip c n cl xs s x (suc y) l none gap =
+    ⊎-elim (λ (e : x ≡ suc y). subst (λ (i : ℕ). Gap c n xs (s ++ i ∷ [])) e gap)
+    (λ (h : x < suc y). gap-more c n cl xs s y (none y (omega arith) (omega arith)) (gap-skip c n cl xs s x y (omega arith) (λ i a b. none i a (omega arith)) gap))
+    (eq-or-lt-of-le l)

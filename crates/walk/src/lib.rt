@@ -3,17 +3,18 @@ ghost use mathlib.Core.Path.{_≡_};
 ghost use Prim.Native.Nat.{ℕ, _<_, _≤_};
 ghost use lib.ListN as ListN;
 ghost use lib.ListN.{length, getD, set, take};
-ghost use Rattle.places.specs.Places.{Placed};
-ghost use Rattle.admit.specs.Tables.{tablesOf};
-ghost use Rattle.walk.specs.Walks.{Levelled, Walked};
+ghost use Rattle.admit.specs.Rows.{writtenWord, wordsWith};
+ghost use Rattle.walk.specs.Walks.{Kept, Walked};
 use admit::due_at;
 use admit::fits;
-use decoded::types::Execution;
+use admit::unwrite;
+use admit::write;
 use decoded::types::wide;
-use links::operations::Operations;
 use places::ABSENT;
 use sets::at;
+use sets::first;
 use sets::insert;
+use sets::minus;
 use sets::put;
 
 // The length of the next consistent prefix, or that there is none.
@@ -22,68 +23,84 @@ pub enum WalkAnswer {
     End,
 }
 
-// Operation x as the entry at k, and k as its place.
-fn add_entry(position: &mut [u8], k: usize, places: &mut [u8], x: usize)
-    requires { ⌜ (k < 256) × (x < 256) × (k < length (now position)) × (x < length (now places)) ⌝ }
-    ensures { λ r. ⌜ (now (position .exit) ≡ set (now (position .entry)) k x) × (now (places .exit) ≡ set (now (places .entry)) x k) ⌝ }
+// Operation x as the entry at k, k as its place, and what it writes.
+pub fn add_entry(
+    position: &mut [u8],
+    k: usize,
+    places: &mut [u8],
+    words: &mut [u64],
+    replaced: &mut [u64],
+    rows: &[u64; 2304],
+    x: usize,
+)
+    requires { ⌜ (k < 128) × (x < 128) × (ListN.length (now position) ≡ 128) × (ListN.length (now places) ≡ 128) × (ListN.length (now words) ≡ 128) × (ListN.length (now replaced) ≡ 128) ⌝ }
+    ensures { λ r. ⌜ (now (position .exit) ≡ set (now (position .entry)) k x) × (now (places .exit) ≡ set (now (places .entry)) x k) × (now (words .exit) ≡ wordsWith (now (rows .entry)) (now (words .entry)) x) × (now (replaced .exit) ≡ set (now (replaced .entry)) k (getD (now (words .entry)) (writtenWord (now (rows .entry)) x) 0)) ⌝ }
 {
     position[k] = x as u8;
     places[x] = k as u8;
+    replaced[k] = write(rows, words, x);
 }
 
-// The operation of the entry at k, which has no place any more.
-fn remove_entry(position: &[u8], k: usize, places: &mut [u8]) -> usize
-    requires { ⌜ (k < length (now position)) × (getD (now position) k 0 < length (now places)) ⌝ }
-    ensures { λ r. ⌜ (r ≡ getD (now (position .entry)) k 0) × (now (places .exit) ≡ set (now (places .entry)) r 255) ⌝ }
+// The operation of the entry at k, which has no place any more; what it wrote is undone.
+fn remove_entry(
+    position: &[u8],
+    k: usize,
+    places: &mut [u8],
+    words: &mut [u64],
+    replaced: &[u64],
+    rows: &[u64; 2304],
+) -> usize
+    requires { ⌜ (k < ListN.length (now position)) × (k < ListN.length (now replaced)) × (getD (now position) k 0 < 128) × (ListN.length (now places) ≡ 128) × (ListN.length (now words) ≡ 128) ⌝ }
+    ensures { λ r. ⌜ (r ≡ getD (now (position .entry)) k 0) × (now (places .exit) ≡ set (now (places .entry)) r 255) × (now (words .exit) ≡ set (now (words .entry)) (writtenWord (now (rows .entry)) r) (getD (now (replaced .entry)) k 0)) ⌝ }
 {
     let last = wide(position[k]);
     places[last] = ABSENT;
+    unwrite(rows, words, last, replaced[k]);
     last
 }
 
-// From the first `length` entries of the position. `stand` has the operations of its first j entries as set j, `places` those of all entries.
+// From the first `length` entries of the position. `stand` has the operations of its first j entries as set j, `places` those of all entries, `words`
+// what they wrote, and `replaced` the word that each wrote over.
 pub fn walk(
     n: usize,
     position: &mut [u8; 128],
     length: usize,
     places: &mut [u8; 128],
     stand: &mut [u64; 258],
-    e: Execution,
-    t: Operations,
-    marks: &[[u16; 40]; 40],
-    preds: &[u64; 256],
-    partners: &[u64; 256],
+    words: &mut [u64; 128],
+    replaced: &mut [u64; 128],
+    rows: &[u64; 2304],
 ) -> WalkAnswer
-    requires { ⌜ (n ≤ 128) × (length < n) × Placed n (take length (now position)) (now places) × Levelled (now position) (now stand) length ⌝ }
-    requires { ⌜ (ListN.length (now position) ≡ 128) × (ListN.length (now places) ≡ 128) ⌝ }
-    requires { ⌜ (e .instructions .count ≤ 40) × (e .lines .count ≤ 8) × ((o : ℕ) → o < n → getD (t .owners) o 0 < 40) ⌝ }
-    ensures { λ r. ⌜ Walked n (tablesOf e t (now (marks .entry)) (now (preds .entry)) (now (partners .entry))) (take length (now (position .entry))) r (now (position .exit)) (now (places .exit)) (now (stand .exit)) ⌝ }
+    requires { ⌜ (n ≤ 128) × (length < n) × Kept n (now rows) (now position) (now places) (now stand) (now words) (now replaced) length ⌝ }
+    requires { ⌜ (ListN.length (now position) ≡ 128) × (ListN.length (now places) ≡ 128) × (ListN.length (now words) ≡ 128) ⌝ }
+    ensures { λ r. ⌜ Walked n (now (rows .entry)) (take length (now (position .entry))) r (now (position .exit)) (now (places .exit)) (now (stand .exit)) (now (words .exit)) (now (replaced .exit)) ⌝ }
 {
     let mut k = length;
     let mut c = 0;
     let mut standing = at(stand, k);
-    let mut due = due_at(position, k, partners, standing);
+    let mut due = minus(due_at(position, k, rows, standing), standing);
     let mut turn = 0;
     while turn < n * n {
-        if c < n {
-            if fits(c, k, due, standing, e, t, marks, preds, partners, places) {
-                // What fits does not stand. The table says so too, whatever the other tables hold.
-                if places[c] == ABSENT {
+        let x = first(due, c);
+        if x < n {
+            if fits(rows, places, words, standing, x) {
+                // What fits does not stand. The table says so too, whatever the rows hold.
+                if places[x] == ABSENT {
                     let size = k + 1;
-                    add_entry(position, k, places, c);
-                    put(stand, size, insert(standing, c));
+                    add_entry(position, k, places, words, replaced, rows, x);
+                    put(stand, size, insert(standing, x));
                     return WalkAnswer::Next(size);
                 }
             }
-            c += 1;
+            c = x + 1;
         } else {
             if k == 0 {
                 return WalkAnswer::End;
             }
             k -= 1;
-            c = remove_entry(position, k, places) + 1;
+            c = remove_entry(position, k, places, words, replaced, rows) + 1;
             standing = at(stand, k);
-            due = due_at(position, k, partners, standing);
+            due = minus(due_at(position, k, rows, standing), standing);
         }
         turn += 1;
     }
