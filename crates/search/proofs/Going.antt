@@ -7,71 +7,70 @@ use mathlib.Core.List.{List}
 use lib.ListN.{length, take}
 use lib.Seq.{length-take-le}
 use Rattle.model.specs.Search.{Outcome, allowed, forbidden, unfinished, searchFrom}
-use Rattle.places.specs.Places.{Placed}
-use Rattle.admit.specs.Tables.{Tables}
 use Rattle.admit.specs.Fits.{Tested}
-use Rattle.walk.specs.Walks.{Levelled, Closed, Passes, Walked}
+use Rattle.walk.specs.Walks.{Closed, Passes, Kept, Walked}
 use Rattle.walk.specs.declared.WalkAnswer.{WalkAnswer}
 use Rattle.walk.specs.declared.WalkAnswer.the-variants.{Next, End}
 use Rattle.search.specs.Replies.{onward}
 use Rattle.search.proofs.Onward.{onward-starts, onward-full, onward-more, onward-spent, onward-none}
 
--- what the search comes to, whatever test its tables stand for
-abbrev pub Comes : ℕ → Tables → List ℕ → ℕ → Outcome → Type 0
-Comes n t given allowance o = (c : List ℕ → Bool) → Tested c n t → Closed c → c given ≡ true → o ≡ searchFrom n c given allowance
+-- what the search comes to, whatever test its rows stand for
+abbrev pub Comes : ℕ → List ℕ → List ℕ → ℕ → Outcome → Type 0
+Comes n rows given allowance o = (c : List ℕ → Bool) → Tested c n rows → Closed c → c given ≡ true → o ≡ searchFrom n c given allowance
 
 -- The invariant: `made` steps have led to the first k entries.
-pub record Going (n : ℕ) (t : Tables) (given : List ℕ) (allowance : ℕ) (levels entries places : List ℕ) (k made : ℕ) : Type 0 where
+pub record Going (n : ℕ) (rows given : List ℕ) (allowance : ℕ) (stand entries places words replaced : List ℕ) (k made : ℕ) : Type 0 where
   pub few : n ≤ 128
   pub room : k < n
   pub allows : made ≤ allowance
   pub whole : length entries ≡ 128
   pub long : length places ≡ 128
-  pub places-hold : Placed n (take k entries) places
-  pub sets : Levelled entries levels k
-  pub rest : (c : List ℕ → Bool) → Tested c n t → Closed c → c given ≡ true
+  pub wide : length words ≡ 128
+  pub kept : Kept n rows entries places stand words replaced k
+  pub rest : (c : List ℕ → Bool) → Tested c n rows → Closed c → c given ≡ true
       → Passes c n (take k entries) × (searchFrom n c given allowance ≡ onward made given (searchFrom n c (take k entries) (allowance - made)))
 
-pub going-starts : {n : ℕ} {t : Tables} {allowance : ℕ} {levels entries places : List ℕ} {k : ℕ} → n ≤ 128 → k < n → length entries ≡ 128 → length places ≡ 128
-    → Placed n (take k entries) places → Levelled entries levels k → Going n t (take k entries) allowance levels entries places k 0
-going-starts {n} {t} {allowance} {levels} {entries} {places} {k} f r w l p s = record {
+pub going-starts : {n : ℕ} {rows : List ℕ} {allowance : ℕ} {stand entries places words replaced : List ℕ} {k : ℕ} → n ≤ 128 → k < n → length entries ≡ 128
+    → length places ≡ 128 → length words ≡ 128 → Kept n rows entries places stand words replaced k
+    → Going n rows (take k entries) allowance stand entries places words replaced k 0
+going-starts {n} {rows} {allowance} {stand} {entries} {k = k} f r w l v h = record {
   few = f;
   room = r;
   allows = omega arith;
   whole = w;
   long = l;
-  places-hold = p;
-  sets = s;
+  wide = v;
+  kept = h;
   rest = λ c tested closed passes. (
-    (passes, p .apart),
+    (passes, h .placed .apart),
     onward-starts n c closed (take k entries) allowance
         ∙ ap (λ (a : ℕ). onward 0 (take k entries) (searchFrom n c (take k entries) a)) (let z : allowance ≡ allowance - 0 = omega arith in z),
   );
 }
 
-module _ {n : ℕ} {t : Tables} {given : List ℕ} {allowance : ℕ} {levels entries places : List ℕ} {k made : ℕ} (inv : Going n t given allowance levels entries places k made)
-    {r : WalkAnswer} {entries′ places′ levels′ : List ℕ} (walked : Walked n t (take k entries) r entries′ places′ levels′) where
+module _ {n : ℕ} {rows given : List ℕ} {allowance : ℕ} {stand entries places words replaced : List ℕ} {k made : ℕ} (inv : Going n rows given allowance stand entries places words replaced k made)
+    {r : WalkAnswer} {entries′ places′ stand′ words′ replaced′ : List ℕ} (walked : Walked n rows (take k entries) r entries′ places′ stand′ words′ replaced′) where
   short : length (take k entries) < n
   short = omega (arith, inv .room, length-take-le k entries (omega (arith, inv .room, inv .few, inv .whole)))
 
-  known : {a : WalkAnswer} → r ≡ a → Walked n t (take k entries) a entries′ places′ levels′
-  known e = subst (λ (a : WalkAnswer). Walked n t (take k entries) a entries′ places′ levels′) e walked
+  known : {a : WalkAnswer} → r ≡ a → Walked n rows (take k entries) a entries′ places′ stand′ words′ replaced′
+  known e = subst (λ (a : WalkAnswer). Walked n rows (take k entries) a entries′ places′ stand′ words′ replaced′) e walked
 
   -- nothing is left
-  pub going-ends : r ≡ End → Comes n t given allowance (record { verdict = forbidden; steps = made; position = given })
+  pub going-ends : r ≡ End → Comes n rows given allowance (record { verdict = forbidden; steps = made; position = given })
   going-ends e c tested closed passes =
       let (on, rest) = inv .rest c tested closed passes in
       sym (rest ∙ onward-none n c closed given (take k entries) on short made (allowance - made) (known e .means c tested closed (on .0)))
 
   module _ (size : ℕ) (e : r ≡ Next size) where
     size-taken : length (take size entries′) ≡ size
-    size-taken = let (f, w, l, p, s) = known e .ready in length-take-le size entries′ (omega (arith, f, w, inv .few))
+    size-taken = let (f, w, l, v, h) = known e .ready in length-take-le size entries′ (omega (arith, f, w, inv .few))
 
     pub going-whole : length entries′ ≡ 128
     going-whole = known e .ready .1
 
     -- the next prefix is full
-    pub going-found : made < allowance → size ≡ n → Comes n t given allowance (record { verdict = allowed; steps = made + 1; position = take size entries′ })
+    pub going-found : made < allowance → size ≡ n → Comes n rows given allowance (record { verdict = allowed; steps = made + 1; position = take size entries′ })
     going-found l full c tested closed passes =
         let (on, rest) = inv .rest c tested closed passes in
         sym (rest
@@ -80,17 +79,17 @@ module _ {n : ℕ} {t : Tables} {given : List ℕ} {allowance : ℕ} {levels ent
         ∙ ap (λ (m : ℕ). record { verdict = allowed; steps = m; position = take size entries′ }) (let z : suc made ≡ made + 1 = omega arith in z))
 
     -- it is not
-    pub going-on : made < allowance → (size ≡ n → ⊥) → Going n t given allowance levels′ entries′ places′ size (made + 1)
+    pub going-on : made < allowance → (size ≡ n → ⊥) → Going n rows given allowance stand′ entries′ places′ words′ replaced′ size (made + 1)
     going-on l more =
-        let (f, w, g, p, s) = known e .ready in
+        let (f, w, g, v, h) = known e .ready in
         record {
           few = inv .few;
           room = omega (arith, f, more);
           allows = omega arith;
           whole = w;
           long = g;
-          places-hold = p;
-          sets = s;
+          wide = v;
+          kept = h;
           rest = λ c tested closed passes.
               let (on, rest) = inv .rest c tested closed passes in
               let next = known e .means c tested closed (on .0) in (
@@ -103,7 +102,7 @@ module _ {n : ℕ} {t : Tables} {given : List ℕ} {allowance : ℕ} {levels ent
         }
 
     -- no allowance is left
-    pub going-spent : allowance ≤ made → Comes n t given allowance (record { verdict = unfinished; steps = made; position = take k entries })
+    pub going-spent : allowance ≤ made → Comes n rows given allowance (record { verdict = unfinished; steps = made; position = take k entries })
     going-spent l c tested closed passes =
         let (on, rest) = inv .rest c tested closed passes in
         sym (rest

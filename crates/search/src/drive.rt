@@ -1,24 +1,17 @@
-// The search from a consistent position: one walk a step, and one more to see whether anything is left.
+// The search from a position: one walk a step, and one more to see whether anything is left.
 ghost use mathlib.Core.Path.{_≡_};
-ghost use mathlib.Core.Bool.{Bool, true};
-ghost use mathlib.Core.List.{List};
-ghost use Prim.Native.Nat.{ℕ, _<_, _≤_};
+ghost use mathlib.Core.Bool.{true};
+ghost use mathlib.Core.List.{[]};
+ghost use Prim.Native.Nat.{_<_, _≤_};
 ghost use lib.ListN as ListN;
-ghost use lib.ListN.{getD};
-ghost use Rattle.model.specs.Search.{searchFrom};
-ghost use Rattle.places.specs.Places.{Placed};
-ghost use Rattle.admit.specs.Tables.{tablesOf};
-ghost use Rattle.admit.specs.Fits.{Tested};
-ghost use Rattle.walk.specs.Walks.{Levelled, Closed};
+ghost use Rattle.base.specs.Lists.{distinct};
+ghost use Rattle.walk.specs.Walks.{Kept};
 ghost use Rattle.search.specs.Positions.{positionOf};
-ghost use Rattle.search.specs.Replies.{outcomeOf};
+ghost use Rattle.search.specs.Drives.{Driven, Ran};
 use crate::position::Position;
-use decoded::types::Execution;
-use decoded::types::wide;
-use links::operations::Operations;
-use sets::at;
-use sets::insert;
-use sets::put;
+use crate::replay::first_words;
+use crate::replay::replay;
+use places::ABSENT;
 use walk::WalkAnswer;
 use walk::walk;
 
@@ -28,50 +21,46 @@ pub enum Verdict {
     Forbidden,
 }
 
-// What a search comes to: its verdict, its steps and the position it leaves.
+// What a search comes to: its verdict, its steps and the position it leaves, if the position given is consistent.
 pub struct Outcome {
+    pub consistent: bool,
     pub verdict: Verdict,
     pub steps: u32,
     pub position: Position,
 }
 
-// For each length up to the position's, the set of its operations.
-fn levels_of(position: Position) -> [u64; 258]
-    requires { ⌜ position .length ≤ 128 ⌝ }
-    requires { ⌜ ((j : ℕ) → j < position .length → getD (position .entries) j 0 < 128) ⌝ }
-    ensures { λ r. ⌜ Levelled (position .entries) r (position .length) ⌝ }
+// An outcome without a step: the position given, and nothing more.
+fn stays(consistent: bool, verdict: Verdict, given: Position) -> Outcome
+    ensures { λ r. ⌜ (r .consistent ≡ consistent) × (r .verdict ≡ verdict) × (r .steps ≡ 0) × (r .position ≡ given) ⌝ }
 {
-    let n = position.length;
-    let entries = position.entries;
-    let mut levels = [0u64; 258];
-    for j in 0..n {
-        let x = wide(entries[j]);
-        let longer = insert(at(&levels, j), x);
-        put(&mut levels, j + 1, longer);
+    Outcome {
+        consistent,
+        verdict,
+        steps: 0,
+        position: given,
     }
-    levels
 }
 
-// From a consistent position that is not full.
-pub fn drive(
+// The steps from a consistent position that is not full.
+fn run(
     n: usize,
     given: Position,
     placed: [u8; 128],
+    stood: [u64; 258],
+    wrote: [u64; 128],
+    over: [u64; 128],
     allowance: u32,
-    e: Execution,
-    t: Operations,
-    marks: &[[u16; 40]; 40],
-    preds: &[u64; 256],
-    partners: &[u64; 256],
+    rows: &[u64; 2304],
 ) -> Outcome
-    requires { ⌜ (n ≤ 128) × (given .length < n) × Placed n (positionOf given) placed × (ListN.length (given .entries) ≡ 128) × (ListN.length placed ≡ 128) ⌝ }
-    requires { ⌜ (e .instructions .count ≤ 40) × (e .lines .count ≤ 8) × ((o : ℕ) → o < n → getD (t .owners) o 0 < 40) ⌝ }
-    ensures { λ r. ⌜ ((c : List ℕ → Bool) → Tested c n (tablesOf e t (now (marks .entry)) (now (preds .entry)) (now (partners .entry))) → Closed c → c (positionOf given) ≡ true → outcomeOf r ≡ searchFrom n c (positionOf given) allowance) ⌝ }
-    ensures { λ r. ⌜ (r .position .length ≤ n) × (ListN.length (r .position .entries) ≡ 128) ⌝ }
+    requires { ⌜ (n ≤ 128) × (given .length < n) × Kept n (now rows) (given .entries) placed stood wrote over (given .length) ⌝ }
+    requires { ⌜ (ListN.length (given .entries) ≡ 128) × (ListN.length placed ≡ 128) × (ListN.length wrote ≡ 128) ⌝ }
+    ensures { λ r. ⌜ Ran n (now (rows .entry)) (positionOf given) allowance r ⌝ }
 {
-    let mut levels = levels_of(given);
     let mut entries = given.entries;
     let mut places = placed;
+    let mut stand = stood;
+    let mut words = wrote;
+    let mut replaced = over;
     let mut length = given.length;
     let mut steps: u32 = 0;
     while steps < allowance {
@@ -80,16 +69,15 @@ pub fn drive(
             &mut entries,
             length,
             &mut places,
-            &mut levels,
-            e,
-            t,
-            marks,
-            preds,
-            partners,
+            &mut stand,
+            &mut words,
+            &mut replaced,
+            rows,
         );
         match next {
             WalkAnswer::End => {
                 return Outcome {
+                    consistent: true,
                     verdict: Verdict::Forbidden,
                     steps,
                     position: given,
@@ -102,6 +90,7 @@ pub fn drive(
         }
         if length == n {
             return Outcome {
+                consistent: true,
                 verdict: Verdict::Allowed,
                 steps,
                 position: Position { length, entries },
@@ -114,20 +103,20 @@ pub fn drive(
         &mut entries,
         length,
         &mut places,
-        &mut levels,
-        e,
-        t,
-        marks,
-        preds,
-        partners,
+        &mut stand,
+        &mut words,
+        &mut replaced,
+        rows,
     );
     match last {
         WalkAnswer::End => Outcome {
+            consistent: true,
             verdict: Verdict::Forbidden,
             steps,
             position: given,
         },
         WalkAnswer::Next(_) => Outcome {
+            consistent: true,
             verdict: Verdict::Unfinished,
             steps,
             position: Position {
@@ -136,4 +125,35 @@ pub fn drive(
             },
         },
     }
+}
+
+// From a position of different operations: whether it is consistent, and if so what the search comes to.
+pub fn drive(n: usize, given: Position, allowance: u32, rows: &[u64; 2304]) -> Outcome
+    requires { ⌜ (n ≤ 128) × (given .length ≤ n) × (distinct n [] (positionOf given) ≡ true) × (ListN.length (given .entries) ≡ 128) ⌝ }
+    ensures { λ r. ⌜ Driven n (now (rows .entry)) (positionOf given) allowance r ⌝ }
+{
+    let mut entries = given.entries;
+    let length = given.length;
+    let mut places = [ABSENT; 128];
+    let mut stand = [0u64; 258];
+    let mut words = first_words(rows);
+    let mut replaced = [0u64; 128];
+    let consistent = replay(
+        n,
+        &mut entries,
+        length,
+        &mut places,
+        &mut stand,
+        &mut words,
+        &mut replaced,
+        rows,
+    );
+    if !consistent {
+        return stays(false, Verdict::Unfinished, given);
+    }
+    if length == n {
+        return stays(true, Verdict::Allowed, given);
+    }
+    let from = Position { length, entries };
+    run(n, from, places, stand, words, replaced, allowance, rows)
 }

@@ -1,98 +1,61 @@
--- Each turn makes one step; the last walk sees whether anything is left.
-use Prim.Native.Nat.{_-_, _≤_}
+-- The position is made again; what follows depends on whether it is consistent and whether it is full.
 use native.Mathlib.Omega.{arith}
-use mathlib.Core.Path.{_≡_}
+use mathlib.Core.Path.{refl, sym, ap, _∙_}
 use lib.ListN as ListN
-use Rattle.admit.specs.Tables.{tablesOf}
-use Rattle.search.specs.Positions.{positionOf}
-use Rattle.search.proofs.LevelLaws.{entries-below}
-use Rattle.search.proofs.Going.{Going, going-starts, going-ends, going-found, going-on, going-spent, going-whole}
-use native.Mathlib.Omega.{arith}
+use borrow.Author.Tests.{not-false}
+use Rattle.search.proofs.ReplayLaws.{kept-none}
+use Rattle.search.proofs.DriveLaws.{drive-broken, drive-full, drive-ran}
 use borrow.Author.Needs.{needs}
 use Rattle.search.proofs.drive.drive.Statement.{statement}
 use Rattle.search.proofs.drive.drive.Tie as tie
 
-abbrev Inv-loop : tie.InvT-loop
-Inv-loop n given allowance e t marks preds partners levels₀ entries₀ places₀ length₀ steps₀ levels entries places length steps = Going n (tablesOf e t marks preds partners) (positionOf given) allowance levels entries places length steps × (given .length ≤ n) × (ListN.length (given .entries) ≡ 128)
+first-words-requires : tie.Need-first-words-requires
+first-words-requires c κs = search needs
 
-abbrev μ-loop : tie.MeasureT-loop
-μ-loop n given allowance e t marks preds partners levels₀ entries₀ places₀ length₀ steps₀ levels entries places length steps = allowance - steps
+replay-requires : tie.Need-replay-requires
+replay-requires c κs =
+    let pre = c .before .before .before .before .before .before .before .before .pre in
+    let words = c .before .before .before .before .before .first-words .ensures in
+    ((pre .0, pre .1, pre .2, kept-none (pre .0) words), (pre .3, refl, search needs))
 
-levels-of-requires : tie.Need-levels-of-requires Inv-loop μ-loop
-levels-of-requires c κs =
-    let pre = c .pre .0 in
-    (omega (arith, pre .0, pre .1), entries-below (c .args .given .length) (c .args .given .entries) (pre .2) (omega (arith, pre .0, pre .1, pre .3)))
+stays-requires : tie.Need-stays-requires
+stays-requires c κs = search needs
 
-loop-holds : tie.Need-loop-holds Inv-loop μ-loop
-loop-holds c =
-    let s = c .before .before in
-    (going-starts (s .pre .0 .0) (s .pre .0 .1) (s .pre .0 .3) (s .pre .0 .4) (s .pre .0 .2) (c .before .levels-of .ensures), omega (arith, s .pre .0 .1), s .pre .0 .3)
+returns : tie.Need-returns
+returns c =
+    let pre = c .before .before .before .before .before .before .before .before .before .before .before .pre in
+    let s = c .stays .ensures in
+    drive-broken (c .before .before .before .before .before .before .before .before .before .before .before .args .allowance) (c .before .before .replay .ensures) (pre .1) (pre .3) (c .before .if1 .taken) (s .0) (s .3)
 
-walk-requires : tie.Need-walk-requires Inv-loop μ-loop
-walk-requires c κs =
-    let inv = c .before .before .before .before .loop .inv .0 in
-    let pre = c .before .before .before .before .before .before .before .pre in
-    ((inv .few, inv .room, inv .places-hold, inv .sets), ((inv .whole, inv .long), pre .1))
+stays-requires-2 : tie.Need-stays-requires-2
+stays-requires-2 c κs = search needs
 
-enum-told : tie.Need-enum-told Inv-loop μ-loop
-enum-told c = search needs
-
-returns : tie.Need-returns Inv-loop μ-loop
-returns c = (going-ends (c .before .before .before .before .before .before .before .loop .inv .0) (c .before .before .walk .ensures) (c .enum-told .given .1), (c .before .before .before .before .before .before .before .loop .inv .1, c .before .before .before .before .before .before .before .loop .inv .2))
-
-enum-known-next : tie.Need-enum-known-next Inv-loop μ-loop
-enum-known-next c = search needs
-
-add-steps : tie.Need-add-steps Inv-loop μ-loop
-add-steps c = search needs
-
-returns-2 : tie.Need-returns-2 Inv-loop μ-loop
+returns-2 : tie.Need-returns-2
 returns-2 c =
-    (going-found (c .before .before .before .before .before .before .before .before .before .loop .inv .0) (c .before .before .before .before .walk .ensures) _ (c .before .before .next .given .1) (c .before .before .before .before .before .before .before .before .loop-test .taken) (c .if1 .taken), (omega (arith, c .if1 .taken), going-whole (c .before .before .before .before .before .before .before .before .before .loop .inv .0) (c .before .before .before .before .walk .ensures) _ (c .before .before .next .given .1)))
+    let pre = c .before .before .before .before .before .before .before .before .before .before .before .before .pre in
+    let s = c .stays2 .ensures in
+    drive-full (c .before .before .before .before .before .before .before .before .before .before .before .before .args .allowance) (c .before .before .before .replay .ensures) (pre .1) (pre .3) (c .before .before .if1 .left) (c .before .if2 .taken) (pre .0) (s .0) (s .1) (s .2) (s .3)
 
-loop-less : tie.Need-loop-less Inv-loop μ-loop
-loop-less c = omega arith
+run-requires : tie.Need-run-requires
+run-requires c κs =
+    let pre = c .before .before .before .before .before .before .before .before .before .before .before .pre in
+    let made = c .before .before .replay .ensures in
+    ((pre .0, omega (arith, pre .1, c .if2 .left), made .kept (not-false _ (c .before .if1 .left))), (ap ListN.length (made .same) ∙ pre .3, made .long, made .wide))
 
-loop-again : tie.Need-loop-again Inv-loop μ-loop
-loop-again c =
-    (going-on (c .before .before .before .before .before .before .before .before .before .loop .inv .0) (c .before .before .before .before .walk .ensures) _ (c .before .before .next .given .1) (c .before .before .before .before .before .before .before .before .loop-test .taken) (c .if1 .left), c .before .before .before .before .before .before .before .before .before .loop .inv .1, c .before .before .before .before .before .before .before .before .before .loop .inv .2)
-
-walk-requires-2 : tie.Need-walk-requires-2 Inv-loop μ-loop
-walk-requires-2 c κs =
-    let inv = c .before .before .before .before .loop .inv .0 in
-    let pre = c .before .before .before .before .before .before .before .pre in
-    ((inv .few, inv .room, inv .places-hold, inv .sets), ((inv .whole, inv .long), pre .1))
-
-enum-told-2 : tie.Need-enum-told-2 Inv-loop μ-loop
-enum-told-2 c = search needs
-
-enum-told-3 : tie.Need-enum-told-3 Inv-loop μ-loop
-enum-told-3 c = search needs
-
-returns-3 : tie.Need-returns-3 Inv-loop μ-loop
-returns-3 c = (going-ends (c .before .before .before .before .before .before .before .loop .inv .0) (c .before .before .walk2 .ensures) (c .enum-told2 .given .1), (c .before .before .before .before .before .before .before .loop .inv .1, c .before .before .before .before .before .before .before .loop .inv .2))
-
-returns-4 : tie.Need-returns-4 Inv-loop μ-loop
-returns-4 c = (going-spent (c .before .before .before .before .before .before .before .loop .inv .0) (c .before .before .walk2 .ensures) _ (c .enum-told3 .given .1) (c .before .before .before .before .before .before .loop-test .left), (omega (arith, c .before .before .before .before .before .before .before .loop .inv .0 .room), c .before .before .before .before .before .before .before .loop .inv .0 .whole))
+returns-3 : tie.Need-returns-3
+returns-3 c =
+    let pre = c .before .before .before .before .before .before .before .before .before .before .before .before .pre in
+    drive-ran (c .before .before .before .before .before .before .before .before .before .before .before .before .args .allowance) (c .before .before .before .replay .ensures) (pre .1) (pre .3) (c .before .before .if1 .left) (c .run .ensures)
 
 pub drive-spec : {M : Type 1} → statement M
 drive-spec =
     tie.close
     (tie.spec
-    Inv-loop
-    μ-loop
-    levels-of-requires
-    loop-holds
-    walk-requires
-    enum-told
+    first-words-requires
+    replay-requires
+    stays-requires
     returns
-    enum-known-next
-    add-steps
+    stays-requires-2
     returns-2
-    loop-less
-    loop-again
-    walk-requires-2
-    enum-told-2
-    enum-told-3
-    returns-3
-    returns-4)
+    run-requires
+    returns-3)
