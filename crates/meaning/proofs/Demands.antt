@@ -28,9 +28,9 @@ use Rattle.reduction.specs.Admits.{ownDemands, remoteDemands, bypassDemands, mi
 use Rattle.reduction.proofs.Settled.{before-absent}
 use Rattle.reduction.proofs.Pairs.{pair-passes, passing-pair}
 use Rattle.reduction.proofs.Apart.{is-store, is-load, R-role, RV-role, store-processor, processor-in, in-processors}
-use Rattle.admit.specs.Tables.{Tables, Holds}
-use Rattle.admit.specs.Fits.{earlierBy, missingBy, storeLost, loadLost, refusesBy, refused}
-use Rattle.admit.proofs.Owners.{number-R, number-RV, role-R, role-RV, role-in, number-is, owner-is, by-number, numbered-in}
+use Rattle.meaning.proofs.Tables.{Tables, Holds}
+use Rattle.meaning.proofs.Refusals.{earlierBy, missingBy, storeLost, loadLost, refusesBy, refusedBy}
+use Rattle.meaning.proofs.Owners.{number-R, number-RV, role-R, role-RV, role-in, number-is, owner-is, by-number, numbered-in}
 
 -- an RV of an instruction is to a processor
 among : {p q : ℕ} → (RV q ≡ LV) ⊎ List·Memᴰ (RV q) (map RV (below p)) → q < p
@@ -75,7 +75,7 @@ module _ {t : Tables} (h : Holds t) (accepted : Accepted (executionOf (t .execut
   earlier-at a b c d q r = sym (before-placed p a b) ∙ ap₂ (before xs) q r
 
   -- the marks of instruction v with the owner of x
-  conflict-mark : (v : ℕ) → v < t .execution .instructions .count
+  pub conflict-mark : (v : ℕ) → v < t .execution .instructions .count
       → hasMark (markAt (t .marks) v owner) 128 ≡ (isStore (instruction v .kind) && isStore (instruction owner .kind) && conflict e (instruction v) (instruction owner))
   unfolding marksBetween marksOf
   conflict-mark v l = ap (λ (m : ℕ). bit m 7) (h .compiled .marked v owner l owner-low) ∙ bit-packed (marksOf e (instruction v) (instruction owner)) 7
@@ -83,7 +83,7 @@ module _ {t : Tables} (h : Holds t) (accepted : Accepted (executionOf (t .execut
   abbrev exposed : Instruction → Instruction → Bool
   exposed w l = inUC e w && (eqb (w .processor) (l .processor) && overlap w l)
 
-  bypass-mark : (v : ℕ) → v < t .execution .instructions .count
+  pub bypass-mark : (v : ℕ) → v < t .execution .instructions .count
       → hasMark (markAt (t .marks) v owner) 256 ≡ (isStore (instruction v .kind) && isLoad (instruction owner .kind) && exposed (instruction v) (instruction owner))
   unfolding marksBetween marksOf
   bypass-mark v l = ap (λ (m : ℕ). bit m 8) (h .compiled .marked v owner l owner-low) ∙ bit-packed (marksOf e (instruction v) (instruction owner)) 8
@@ -92,12 +92,12 @@ module _ {t : Tables} (h : Holds t) (accepted : Accepted (executionOf (t .execut
   abbrev refusal : ℕ → Bool
   refusal v = refusesBy places (t .execution .instructions) (t .marks) roleNumber owner v
 
-  load-refusal : (v : ℕ) → roleNumber ≡ 0
+  pub load-refusal : (v : ℕ) → roleNumber ≡ 0
       → refusal v ≡ (hasMark (markAt (t .marks) v owner) 256 && loadLost places (instruction v .first) (instruction v .processor))
   unfolding refusesBy instructionAt
   load-refusal v q = rw (eq-eqb roleNumber 0 q) refl
 
-  store-refusal : (v : ℕ) → (roleNumber ≡ 0 → ⊥) → 3 ≤ roleNumber
+  pub store-refusal : (v : ℕ) → (roleNumber ≡ 0 → ⊥) → 3 ≤ roleNumber
       → refusal v
       ≡ (hasMark (markAt (t .marks) v owner) 128
       && storeLost places (roleNumber - 3) (instruction v .first) (instruction v .processor) (instruction owner .first) (instruction owner .processor))
@@ -108,7 +108,7 @@ module _ {t : Tables} (h : Holds t) (accepted : Accepted (executionOf (t .execut
   demanded = any (lost e x xs) (ownDemands e x) || any (lost e x xs) (remoteDemands e x) || any (lost e x xs) (bypassDemands e x)
 
   -- a store and a load are kept in their lists
-  store-in : (v : ℕ) → v < t .execution .instructions .count → isStore (instruction v .kind) ≡ true → List·Memᴰ (instruction v) (stores e)
+  pub store-in : (v : ℕ) → v < t .execution .instructions .count → isStore (instruction v .kind) ≡ true → List·Memᴰ (instruction v) (stores e)
   unfolding stores
   store-in v l k = in-keep (λ i. isStore (i .kind)) (numbered-in t v l) k
 
@@ -117,10 +117,10 @@ module _ {t : Tables} (h : Holds t) (accepted : Accepted (executionOf (t .execut
   load-in v l k = in-keep (λ i. isLoad (i .kind)) (numbered-in t v l) k
 
   abbrev is-refused : Bool
-  is-refused = refused places (t .execution .instructions) (t .operations) (t .marks) x
+  is-refused = refusedBy places (t .execution .instructions) (t .operations) (t .marks) x
 
   refuses-it : (v : ℕ) → v < t .execution .instructions .count → refusal v ≡ true → is-refused ≡ true
-  unfolding refused
+  unfolding refusedBy
   refuses-it v l r = any-passes refusal (t .execution .instructions .count) v l r
 
   -- x is the RV to q of store w, and store v refuses it
@@ -244,7 +244,7 @@ module _ {t : Tables} (h : Holds t) (accepted : Accepted (executionOf (t .execut
   x-is r q = eq-eqb x (numberOf (instruction owner) r) (sym (number-is h accepted x low) ∙ ap (numberOf (instruction owner)) q)
 
   -- the processor of an RV
-  remote-few : (q : ℕ) → roleNumbered roleNumber ≡ RV q → q < e .processors
+  pub remote-few : (q : ℕ) → roleNumbered roleNumber ≡ RV q → q < e .processors
   remote-few q r = role-few (instruction owner .kind) (subst (λ (s : Role). List·Memᴰ s (roles (e .processors) (instruction owner .kind))) r (role-in h accepted x low))
 
   bypass-demanded : (v : ℕ) → v < t .execution .instructions .count → roleNumber ≡ 0 → refusal v ≡ true → any (lost e x xs) (bypassDemands e x) ≡ true
@@ -289,7 +289,7 @@ module _ {t : Tables} (h : Holds t) (accepted : Accepted (executionOf (t .execut
           (any-one (lost e x xs) (numberOf (instruction v) LV, numberOf (instruction owner) LV, RV-own (instruction v)) ∙ and-both b m))
 
   refused-demanded : is-refused ≡ true → demanded ≡ true
-  unfolding refused refusesBy
+  unfolding refusedBy refusesBy
   refused-demanded r =
       let (v, l, k) = some-at refusal (t .execution .instructions .count) r in
       split (eqb roleNumber 0)
@@ -300,16 +300,16 @@ module _ {t : Tables} (h : Holds t) (accepted : Accepted (executionOf (t .execut
       (store-demanded v l (λ q. clash (eq-eqb roleNumber 0 q) z) (leb-true 3 roleNumber s) k))
       (λ s. clash k (rw (z, s) refl)))
 
-  pub refused-is : refused places (t .execution .instructions) (t .operations) (t .marks) x ≡ demanded
+  pub refused-is : refusedBy places (t .execution .instructions) (t .operations) (t .marks) x ≡ demanded
   refused-is =
-      agree (refused places (t .execution .instructions) (t .operations) (t .marks) x) demanded refused-demanded
+      agree (refusedBy places (t .execution .instructions) (t .operations) (t .marks) x) demanded refused-demanded
       (λ d. from (or-parts (any (lost e x xs) (ownDemands e x) || any (lost e x xs) (remoteDemands e x)) (any (lost e x xs) (bypassDemands e x)) d))
     where
-      first : (any (lost e x xs) (ownDemands e x) ≡ true) ⊎ (any (lost e x xs) (remoteDemands e x) ≡ true) → refused places (t .execution .instructions) (t .operations) (t .marks) x ≡ true
+      first : (any (lost e x xs) (ownDemands e x) ≡ true) ⊎ (any (lost e x xs) (remoteDemands e x) ≡ true) → refusedBy places (t .execution .instructions) (t .operations) (t .marks) x ≡ true
       first (inl k) = own-refused k
       first (inr k) = remote-refused k
 
       from : ((any (lost e x xs) (ownDemands e x) || any (lost e x xs) (remoteDemands e x)) ≡ true) ⊎ (any (lost e x xs) (bypassDemands e x) ≡ true)
-          → refused places (t .execution .instructions) (t .operations) (t .marks) x ≡ true
+          → refusedBy places (t .execution .instructions) (t .operations) (t .marks) x ≡ true
       from (inl k) = first (or-parts (any (lost e x xs) (ownDemands e x)) (any (lost e x xs) (remoteDemands e x)) k)
       from (inr k) = bypass-refused k

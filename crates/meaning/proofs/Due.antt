@@ -18,15 +18,17 @@ use Rattle.model.proofs.Accepted.{Accepted}
 use Rattle.model.proofs.Before.{before-stays}
 use Rattle.decoded.specs.Decoded.{executionOf}
 use Rattle.links.specs.Operations.{operationAt, tableOf}
-use Rattle.sets.specs.Set.{holds, setAt}
+use Rattle.sets.specs.Set.{holds}
 use Rattle.reduction.specs.Admits.{missing, interrupts}
 use Rattle.reduction.proofs.Pairs.{any-fails}
 use Rattle.reduction.proofs.Settled.{before-absent}
 use Rattle.reduction.proofs.Links.{kept}
 use Rattle.reduction.proofs.Apart.{RV-role, in-processors, is-store, RV-in, one-owner}
-use Rattle.admit.specs.Tables.{Tables, partner, Holds}
+use Rattle.admit.specs.Rows.{partner, partnerBy}
+use Rattle.meaning.proofs.Tables.{Tables, Holds}
+use Rattle.meaning.proofs.Owners.{number-low}
 use Rattle.admit.specs.Fits.{lastEntry, dueOf, Standing}
 use Rattle.admit.proofs.FitLaws.{last-more, due-any}
 
 -- a list is empty, or a list with one entry more
 by-last : (C : List ℕ → Type 0) → C [] → ((ys : List ℕ) (o : ℕ) → C (ys ++ (o ∷ []))) → (xs : List ℕ) → C xs
@@ -124,41 +126,34 @@ module _ {t : Tables} (h : Holds t) (accepted : Accepted (executionOf (t .execut
   abbrev n : ℕ
   n = operations e
 
-  -- the number of an operation is below their count
-  number-low : {a : Operation} → List·Memᴰ a (allOperations e) → a .number < n
-  unfolding tableOf operationAt
-  number-low {a} m =
-      let (k, mk, q) = Memᴰ·of-map _ (below (t .operations .count)) (subst (List·Memᴰ a) (sym (h .compiled .tabled .holds)) m) in
-      omega (arith, of-below (t .operations .count) mk, ap (λ (o : Operation). o .number) q, h .compiled .tabled .counts)
-
   RV-low : {w : Instruction} {a : ℕ} → List·Memᴰ w (stores e) → List·Memᴰ a (remoteOf e w) → a < n
   RV-low {w} mw ma =
       let (q, lq, k) = RV-of e w ma in
-      omega (arith, number-low (RV-in e mw q lq), k)
+      omega (arith, number-low h (RV-in e mw q lq), k)
 
   -- partners are RV of one st.rel to WB
-  partner-of : (o a : ℕ) → o < n → a < 128 → setAt (t .partners) o a ≡ true
+  partner-of : (o a : ℕ) → o < n → a < 128 → partnerBy (t .rows) o a ≡ true
       → (w : Instruction) × List·Memᴰ w (stores e) × (opens e w ≡ true) × List·Memᴰ o (remoteOf e w) × List·Memᴰ a (remoteOf e w)
   unfolding partner
   partner-of o a lo la s =
-      let (w, mw, k) = any-witness _ (stores e) (sym (h .partners-are o a lo la) ∙ s) in
+      let (w, mw, k) = any-witness _ (stores e) (sym (h .rowed o lo .partners-are a la) ∙ s) in
       let (release, both) = and-parts (opens e w) (member (remoteOf e w) o && member (remoteOf e w) a) k in
       let (mo, ma) = and-parts (member (remoteOf e w) o) (member (remoteOf e w) a) both in
       (w, mw, release, member-in (remoteOf e w) o mo, member-in (remoteOf e w) a ma)
 
   -- and RV of one st.rel to WB are partners
   of-partner : {o a : ℕ} {w : Instruction} → List·Memᴰ w (stores e) → opens e w ≡ true → List·Memᴰ o (remoteOf e w) → List·Memᴰ a (remoteOf e w)
-      → setAt (t .partners) o a ≡ true
+      → partnerBy (t .rows) o a ≡ true
   unfolding partner
   of-partner {o} {a} {w} mw release mo ma =
-      h .partners-are o a (RV-low mw mo) (omega (arith, RV-low mw ma, accepted .operations-few))
+      h .rowed o (RV-low mw mo) .partners-are a (omega (arith, RV-low mw ma, accepted .operations-few))
       ∙ any-member _ mw (and-both release (and-both (in-member mo) (in-member ma)))
 
   -- x is no RV of the store that o is an RV of: no partner of o
   no-partner : (x : ℕ) → x < n → {o : ℕ} {w : Instruction} → List·Memᴰ w (stores e) → List·Memᴰ o (remoteOf e w) → member (remoteOf e w) x ≡ false
-      → setAt (t .partners) o x ≡ false
+      → partnerBy (t .rows) o x ≡ false
   no-partner x low {o} {w} mw mo none =
-      is-false (setAt (t .partners) o x) (λ p.
+      is-false (partnerBy (t .rows) o x) (λ p.
       let (v, mv, release, ov, xv) = partner-of o x (RV-low mw mo) (omega (arith, accepted .operations-few)) p in
       clash (in-member (subst (λ (i : Instruction). List·Memᴰ x (remoteOf e i)) (one-store e accepted mv mw ov mo) xv)) none)
 
@@ -169,18 +164,18 @@ module _ {t : Tables} (h : Holds t) (accepted : Accepted (executionOf (t .execut
     xs = ys ++ (o ∷ [])
 
     abbrev stands : ℕ → Bool
-    stands a = not (setAt (t .partners) o a) || holds lo hi a
+    stands a = not (partnerBy (t .rows) o a) || holds lo hi a
 
     abbrev open-one : Bool
     open-one = any (interrupts e x xs) (stores e)
 
     -- the test, by the last entry
-    due-last : dueOf (t .partners) xs lo hi x ≡ (allBelow 128 stands || setAt (t .partners) o x)
+    due-last : dueOf (t .rows) xs lo hi x ≡ (allBelow 128 stands || partnerBy (t .rows) o x)
     unfolding dueOf
     due-last = rw (last-more ys o, lt-ltb o 128 (omega (arith, accepted .operations-few)))
 
     -- x interrupts an open st.rel to WB: a partner of the last entry is missing, and x is no partner
-    refuses : open-one ≡ true → (allBelow 128 stands || setAt (t .partners) o x) ≡ false
+    refuses : open-one ≡ true → (allBelow 128 stands || partnerBy (t .rows) o x) ≡ false
     refuses s =
         let (w, mw, k) = any-witness (interrupts e x xs) (stores e) s in
         let (release, none, a, ma, here, c, mc, misses) = of-interrupts e x xs w k in
@@ -190,28 +185,28 @@ module _ {t : Tables} (h : Holds t) (accepted : Accepted (executionOf (t .execut
         rw (all-fails stands 128 c small lacks) (no-partner x low mw mo none)
 
     -- x interrupts none: the partners of the last entry stand, or x is one
-    partner-stands : open-one ≡ false → setAt (t .partners) o x ≡ false → (a : ℕ) → a < 128 → setAt (t .partners) o a ≡ true → member xs a ≡ true
+    partner-stands : open-one ≡ false → partnerBy (t .rows) o x ≡ false → (a : ℕ) → a < 128 → partnerBy (t .rows) o a ≡ true → member xs a ≡ true
     partner-stands f free a small p =
         split (member xs a) (λ s. s) (λ misses.
         let (w, mw, release, mo, ma) = partner-of o a low-o small p in
         let none : member (remoteOf e w) x ≡ false = is-false (member (remoteOf e w) x) (λ s. clash (of-partner mw release mo (member-in (remoteOf e w) x s)) free) in
         clash (any-member (interrupts e x xs) mw (interrupts-by e x xs w release none mo (last-stands ys o) ma misses)) f)
 
-    allows : open-one ≡ false → (allBelow 128 stands || setAt (t .partners) o x) ≡ true
+    allows : open-one ≡ false → (allBelow 128 stands || partnerBy (t .rows) o x) ≡ true
     allows f =
-        split (setAt (t .partners) o x)
-        (λ p. or-right (allBelow 128 stands) (setAt (t .partners) o x) p)
+        split (partnerBy (t .rows) o x)
+        (λ p. or-right (allBelow 128 stands) (partnerBy (t .rows) o x) p)
         (λ free. rw (all-below stands 128 (λ a small.
-        split (setAt (t .partners) o a) (λ p. rw p (standing a small ∙ partner-stands f free a small p)) (λ p. rw p))))
+        split (partnerBy (t .rows) o a) (λ p. rw p (standing a small ∙ partner-stands f free a small p)) (λ p. rw p))))
 
-    due-more : dueOf (t .partners) xs lo hi x ≡ not open-one
+    due-more : dueOf (t .rows) xs lo hi x ≡ not open-one
     due-more = due-last ∙ split open-one (λ s. refuses s ∙ ap not (sym s)) (λ f. allows f ∙ ap not (sym f))
 
   -- nothing stands, so no st.rel is open
-  due-first : (x lo hi : ℕ) → dueOf (t .partners) [] lo hi x ≡ not (any (interrupts e x []) (stores e))
+  due-first : (x lo hi : ℕ) → dueOf (t .rows) [] lo hi x ≡ not (any (interrupts e x []) (stores e))
   unfolding lastEntry member
   due-first x lo hi =
-      sym (due-any (t .partners) [] lo hi x (omega arith)) ∙ ap not (sym (is-false (any (interrupts e x []) (stores e)) (λ s.
+      sym (due-any (t .rows) [] lo hi x (omega arith)) ∙ ap not (sym (is-false (any (interrupts e x []) (stores e)) (λ s.
       let (w, mw, k) = any-witness (interrupts e x []) (stores e) s in
       let (release, none, a, ma, here, c, mc, misses) = of-interrupts e x [] w k in
       clash here refl)))
@@ -220,7 +215,7 @@ module _ {t : Tables} (h : Holds t) (accepted : Accepted (executionOf (t .execut
 pub due-is : {t : Tables} → Holds t → Accepted (executionOf (t .execution)) → (x : ℕ) → x < operations (executionOf (t .execution))
     → (xs : List ℕ) (lo hi : ℕ) → consistent (executionOf (t .execution)) xs ≡ true → distinct (operations (executionOf (t .execution))) [] xs ≡ true
     → Standing xs lo hi → member xs x ≡ false
-    → dueOf (t .partners) xs lo hi x ≡ not (any (interrupts (executionOf (t .execution)) x xs) (stores (executionOf (t .execution))))
+    → dueOf (t .rows) xs lo hi x ≡ not (any (interrupts (executionOf (t .execution)) x xs) (stores (executionOf (t .execution))))
 due-is {t} h accepted x low xs lo hi consists apart standing new =
     by-last Claimed
     (λ c d s. due-first h accepted x lo hi)
@@ -232,4 +227,4 @@ due-is {t} h accepted x low xs lo hi consists apart standing new =
 
     Claimed : List ℕ → Type 0
     Claimed l = consistent e′ l ≡ true → distinct (operations e′) [] l ≡ true → Standing l lo hi
-        → dueOf (t .partners) l lo hi x ≡ not (any (interrupts e′ x l) (stores e′))
+        → dueOf (t .rows) l lo hi x ≡ not (any (interrupts e′ x l) (stores e′))

@@ -12,11 +12,11 @@ use Rattle.model.specs.Execution.{Kind, ld, ld-acq, st, st-rel, mf, Instruction
 use Rattle.model.proofs.Accepted.{Accepted}
 use Rattle.decoded.specs.Kinds.{roleNumbered}
 use Rattle.decoded.specs.Decoded.{instructionAt, instructionsOf, executionOf}
-use Rattle.links.specs.Operations.{operationAt}
+use Rattle.links.specs.Operations.{operationAt, tableOf}
 use Rattle.links.proofs.LinkLaws.{operation-role, operation-of}
 use Rattle.links.proofs.CompiledLaws.{operation-there}
 use Rattle.reduction.proofs.Apart.{one-owner}
-use Rattle.admit.specs.Tables.{Tables, Holds}
+use Rattle.meaning.proofs.Tables.{Tables, Holds}
 
 -- a role by its number
 pub number-R : (k : ℕ) → roleNumbered k ≡ R → k ≡ 0
@@ -111,3 +111,10 @@ by-number t m =
 pub numbered-in : (t : Tables) (k : ℕ) → k < t .execution .instructions .count → List·Memᴰ (instructionAt (t .execution .instructions) k) (executionOf (t .execution) .instructions)
 unfolding executionOf instructionsOf
 numbered-in t k l = Memᴰ·map (instructionAt (t .execution .instructions)) (in-below (t .execution .instructions .count) k l)
+
+-- the number of an operation is below their count
+pub number-low : {t : Tables} → Holds t → {a : model.Operation} → List·Memᴰ a (allOperations (executionOf (t .execution))) → a .number < operations (executionOf (t .execution))
+unfolding tableOf operationAt
+number-low {t} h {a} m =
+    let (k, mk, q) = Memᴰ·of-map _ (below (t .operations .count)) (subst (List·Memᴰ a) (sym (h .compiled .tabled .holds)) m) in
+    omega (arith, of-below (t .operations .count) mk, ap (λ (o : model.Operation). o .number) q, h .compiled .tabled .counts)

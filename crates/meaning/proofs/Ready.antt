@@ -16,12 +16,13 @@ use Rattle.model.specs.Execution.{operations, allOperations}
 use Rattle.model.specs.Rules.{linked, linksOf}
 use Rattle.decoded.specs.Decoded.{executionOf}
 use Rattle.links.specs.Operations.{operationAt, tableOf}
-use Rattle.sets.specs.Set.{holds, setAt}
+use Rattle.sets.specs.Set.{holds}
+use Rattle.admit.specs.Rows.{precedes}
 use Rattle.reduction.specs.Admits.{missing, unready}
 use Rattle.reduction.proofs.Pairs.{any-is}
 use Rattle.reduction.proofs.Links.{any-links}
-use Rattle.admit.specs.Tables.{Tables, Holds}
+use Rattle.meaning.proofs.Tables.{Tables, Holds}
 use Rattle.admit.specs.Fits.{Standing}
 
 module _ {t : Tables} (h : Holds t) where
   abbrev e : model.Execution
@@ -53,7 +54,7 @@ module _ {t : Tables} (h : Holds t) where
         ∙ any-is (λ b. linked e (operation a) (operation b)) x (missing e x xs a) (in-below n x low))
 
     -- a set of predecessors that stands
-    pub ready-is : allBelow 128 (λ a. not (setAt (t .preds) x a) || holds lo hi a) ≡ not (any (unready e x xs) (linksOf e (linked e)))
+    pub ready-is : allBelow 128 (λ a. not (precedes (t .rows) x a) || holds lo hi a) ≡ not (any (unready e x xs) (linksOf e (linked e)))
     ready-is =
         agree (allBelow 128 stands) (not (any (unready e x xs) (linksOf e (linked e))))
         (λ k. ap not (unready-is ∙ is-false (anyBelow n lacks) (λ s.
@@ -62,13 +63,13 @@ module _ {t : Tables} (h : Holds t) where
         (λ k. all-below stands 128 (λ a l. at-stand a l (not-true (any (unready e x xs) (linksOf e (linked e))) k)))
       where
         stands : ℕ → Bool
-        stands a = not (setAt (t .preds) x a) || holds lo hi a
+        stands a = not (precedes (t .rows) x a) || holds lo hi a
 
         lacks : ℕ → Bool
         lacks a = linked e (operation a) (operation x) && missing e x xs a
 
         stands-is : (a : ℕ) → a < 128 → stands a ≡ (not (ltb a n && linked e (operation a) (operation x)) || member xs a)
-        stands-is a l = ap₂ (λ (p q : Bool). not p || q) (h .preds-are x a low l) (standing a l)
+        stands-is a l = ap₂ (λ (p q : Bool). not p || q) (h .rowed x low .preds-are a l) (standing a l)
 
         at-lack : (a : ℕ) → a < n → lacks a ≡ true → stands a ≡ false
         at-lack a l m =

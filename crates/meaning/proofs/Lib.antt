@@ -1,0 +1,9 @@
+-- The laws of this crate, open to the crates above it.
+pub mod Tables
+pub mod Owners
+pub mod Ready
+pub mod Due
+pub mod Refusals
+pub mod Demands
+pub mod OperationRows
+pub mod Rivals
