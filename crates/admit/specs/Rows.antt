@@ -3,7 +3,7 @@ use Prim.Native.Nat.{ℕ, _+_, _*_, _-_, _/_, _%_, _<_}
 use mathlib.Core.Path.{_≡_}
 use mathlib.Core.Bool.{Bool, true, false, cond, _&&_, _||_}
 use mathlib.Core.List.{List, [], _∷_}
-use lib.ListN.{getD, set, take, drop}
+use lib.ListN.{length, getD, set, take, drop}
 use lib.Bits.{bitAnd, bitOr, bitXor}
 use lib.Dec.{eqb, leb, ltb}
 use Rattle.base.specs.Lists.{any, member}
@@ -183,6 +183,7 @@ Initial x words =
 pub record Holds (x : Execution) (t : Operations) (marks : List (List ℕ)) (rows : List ℕ) : Type 0 where
   pub compiled : Compiled x t marks
   pub rowed : (o : ℕ) → o < operations (executionOf x) → RowOf x t marks o (λ f. field rows f o)
+  pub whole : length rows ≡ 2304
   pub starts : Initial x (firstWords rows)
   pub data-bytes : Bytes (x .instructions .bytes)
   pub initial-bytes : Bytes (x .lines .initial)

@@ -37,7 +37,7 @@ among : {p q : ℕ} → (RV q ≡ LV) ⊎ List·Memᴰ (RV q) (map RV (below p))
 among {p} {q} (inl h) = let z : _≡_ {A = ℕ} 0 1 = cc in absurd (omega arith)
 among {p} {q} (inr k) = let (r, mr, h) = Memᴰ·of-map RV (below p) k in let z : r ≡ q = cc in omega (arith, of-below p mr)
 
-role-few : {p q : ℕ} (k : Kind) → List·Memᴰ (RV q) (roles p k) → q < p
+pub role-few : {p q : ℕ} (k : Kind) → List·Memᴰ (RV q) (roles p k) → q < p
 unfolding roles
 role-few {p} {q} ld m = let z : _≡_ {A = ℕ} 0 1 = (let w = List·Memᴰ·eq-of-singleton m in cc) in absurd (omega arith)
 role-few {p} {q} ld-acq m = let z : _≡_ {A = ℕ} 0 1 = (let w = List·Memᴰ·eq-of-singleton m in cc) in absurd (omega arith)

@@ -7,3 +7,8 @@ pub mod Refusals
 pub mod Demands
 pub mod OperationRows
 pub mod Rivals
+pub mod Bytes
+pub mod Words
+pub mod Sources
+pub mod Sees
+pub mod Meaning
