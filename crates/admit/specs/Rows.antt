@@ -9,7 +9,7 @@ use lib.Dec.{eqb, leb, ltb}
 use Rattle.base.specs.Lists.{any, member}
 use Rattle.base.specs.Below.{anyBelow}
 use Rattle.base.specs.Bits.{bit}
-use Rattle.model.specs.Execution.{isStore, isRelease, stores, operations}
+use Rattle.model.specs.Execution.{isStore, isRelease, kindOf, stores, operations}
 use Rattle.model.specs.Rules.{linked, inWB, remoteOf, accesses}
 use Rattle.decoded.specs.declared.types.Execution.{Execution}
 use Rattle.decoded.specs.Decoded.{instructionAt, executionOf}
@@ -124,6 +124,12 @@ ownAt p line = 64 + 8 * p + line
 abbrev pub writes : ℕ → Bool
 writes role = eqb role 1 || leb 3 role
 
+-- The operation for which one with a role may have to wait because of an instruction, by the marks of the two: of a conflicting store the RV to the same
+-- processor, for an R the own RV of a UC store.
+unfoldable pub rivalBy : ℕ → ℕ → ℕ → ℕ → ℕ → Bool
+rivalBy marks role first processor a =
+    cond (eqb role 0) (hasMark marks 256 && eqb a (1 + first + processor)) (leb 3 role && (hasMark marks 128 && eqb a (1 + first + (role - 3))))
+
 module _ (x : Execution) (t : Operations) (marks : List (List ℕ)) (o : ℕ) where
   abbrev pub owner : ℕ
   owner = getD (t .owners) o 0
@@ -137,21 +143,19 @@ module _ (x : Execution) (t : Operations) (marks : List (List ℕ)) (o : ℕ) wh
   abbrev pub line : ℕ
   line = getD (x .instructions .addresses) owner 0 / 8
 
-  -- the operation for which o may have to wait because of instruction v: of a conflicting store the RV to the same processor, for an R the own RV of a UC store
-  unfoldable pub rivalOf : ℕ → ℕ → Bool
-  rivalOf v a =
-      cond (eqb role 0)
-      (hasMark (markAt marks v owner) 256 && eqb a (1 + getD (x .instructions .firsts) v 0 + getD (x .instructions .processors) v 0))
-      (leb 3 role && (hasMark (markAt marks v owner) 128 && eqb a (1 + getD (x .instructions .firsts) v 0 + (role - 3))))
+  -- o may have to wait for a because of instruction v
+  abbrev pub rivalOf : ℕ → ℕ → Bool
+  rivalOf v a = rivalBy (markAt marks v owner) role (getD (x .instructions .firsts) v 0) (getD (x .instructions .processors) v 0) a
 
-  -- a is the own RV of v, a store of the R's processor to its line
-  unfoldable pub bypassOf : ℕ → ℕ → Bool
-  bypassOf v a =
-      eqb role 0
-      && (isStore (instructionAt (x .instructions) v .kind)
-      && (eqb (getD (x .instructions .processors) v 0) processor
-      && (eqb (getD (x .instructions .addresses) v 0 / 8) line
-      && eqb a (1 + getD (x .instructions .firsts) v 0 + getD (x .instructions .processors) v 0))))
+  -- instruction v is a store of o's processor to its line
+  abbrev pub besides : ℕ → Bool
+  besides v =
+      isStore (kindOf (getD (x .instructions .kinds) v 0))
+      && (eqb (getD (x .instructions .processors) v 0) processor && eqb (getD (x .instructions .addresses) v 0 / 8) line)
+
+  -- o is an R, and a the own RV of such a store v
+  abbrev pub bypassOf : ℕ → ℕ → Bool
+  bypassOf v a = eqb role 0 && (besides v && eqb a (1 + getD (x .instructions .firsts) v 0 + getD (x .instructions .processors) v 0))
 
   pub record RowOf (row : ℕ → ℕ) : Type 0 where
     pub preds-are : (a : ℕ) → a < 128

@@ -26,7 +26,7 @@ use Rattle.links.specs.Operations.{operationAt, tableOf}
 use Rattle.links.specs.Compiled.{Compiled}
 use Rattle.links.proofs.LinkLaws.{operation-role, operation-of}
 use Rattle.links.proofs.CompiledLaws.{operation-there, owner-there}
-use Rattle.admit.specs.Tables.{partner}
+use Rattle.admit.specs.Rows.{partner}
 use Rattle.constraints.specs.Rows.{remotesFrom, partnerAt}
 
 -- an operation has the number of its instruction's role

@@ -1,21 +1,26 @@
--- Loops that make a set, and a table of sets, one after the other.
-use Prim.Native.Nat.{ℕ, suc, _+_, _*_, _-_, _≤_, _<_}
+-- Loops that make a set, one after the other.
+use Prim.Native.Nat.{ℕ, suc, _+_, _-_, _/_, _≤_, _<_}
 use native.Mathlib.Numerals.{add-one}
 use native.Mathlib.Omega.{arith}
-use native.Mathlib.Decide.{decLt}
-use mathlib.Core.Path.{_≡_, refl, sym, ap, ap₂, _∙_, subst}
-use mathlib.Core.Bool.{Bool, true, false, cond, _&&_, _||_, and-true, and-false, or-false}
+use mathlib.Core.Path.{_≡_, refl, sym, ap, ap₂, _∙_}
+use mathlib.Core.Bool.{Bool, true, false, not, cond, _&&_, _||_, and-true, and-false, or-false}
 use mathlib.Core.List.{List, [], _∷_, map, map-append}
-use lib.ListN.{length, getD, set, length-set}
-use lib.Seq.{getD-set-same, getD-set-other}
-use lib.Dec.{eqb, ltb}
-use borrow.Author.Tests.{eqb-true, eqb-false, ltb-true, lt-ltb, le-ltb}
+use lib.ListN.{getD}
+use lib.Dec.{eqb, leb, ltb}
+use borrow.Author.Tests.{eq-eqb, ne-eqb, eqb-true, eqb-false, ltb-true, lt-ltb, le-ltb, le-leb, lt-leb, not-true, not-false}
 use Rattle.base.specs.Lists.{below, count, member}
+use Rattle.base.specs.Below.{anyBelow}
 use Rattle.base.specs.Bits.{bit}
 use Rattle.base.proofs.Bools.{agree, split, eqb-swap}
 use Rattle.base.proofs.Lists.{below-more, member-append}
+use Rattle.base.proofs.Tests.{any-below-and}
 use Rattle.sets.specs.Set.{holds}
 use Rattle.sets.proofs.Laws.{zero-has}
+use Rattle.marks.specs.Marks.{hasMark}
+use Rattle.model.specs.Execution.{kindOf, isStore}
+use Rattle.decoded.specs.declared.types.Execution.{Execution}
+use Rattle.links.specs.declared.operations.Operations.{Operations}
+use Rattle.admit.specs.Rows.{rivalBy, bypassOf}
 use Rattle.constraints.specs.Rows.{remotesFrom}
 
 -- the empty set
@@ -83,39 +88,70 @@ remotes-more first q a =
     ∙ member-append (map (λ (k : ℕ). suc first + k) (below q)) (suc first + q) a
     ∙ ap (λ (t : Bool). member (map (λ (k : ℕ). suc first + k) (below q)) a || t) (eqb-swap (suc first + q) a ∙ ap (eqb a) (omega arith)))
 
--- The invariant: the first k sets of the table are as they should be.
-pub record Filled (P : ℕ → ℕ → ℕ → Type 0) (k : ℕ) (x : List ℕ) : Type 0 where
-  pub long : length x ≡ 256
-  pub holds-set : (o : ℕ) → o < k → P o (getD x (2 * o) 0) (getD x (2 * o + 1) 0)
+-- The invariant: the set has what some number below i adds.
+pub record Added (n : ℕ) (p : ℕ → ℕ → Bool) (i lo hi : ℕ) : Type 0 where
+  pub few : i ≤ n
+  pub adds : (a : ℕ) → a < 128 → holds lo hi a ≡ anyBelow i (λ v. p v a)
 
-pub filled-none : {P : ℕ → ℕ → ℕ → Type 0} {x : List ℕ} → length x ≡ 256 → Filled P 0 x
-filled-none {P} {x} l = record { long = l; holds-set = λ o h. absurd (omega arith) }
+pub adds-none : {n : ℕ} {p : ℕ → ℕ → Bool} → Added n p 0 0 0
+unfolding anyBelow
+adds-none = record { few = omega arith; adds = λ a l. holds-none a }
 
-pub filled-more : {P : ℕ → ℕ → ℕ → Type 0} {k : ℕ} {x y : List ℕ} → Filled P k x → (lo hi : ℕ) → k < 128 → y ≡ set (set x (2 * k) lo) (2 * k + 1) hi → P k lo hi
-    → Filled P (k + 1) y
-filled-more {P} {k} {x} {y} inv lo hi room e h = subst (Filled P (k + 1)) (sym e) record {
-  long = length-set (set x (2 * k) lo) (2 * k + 1) hi ∙ length-set x (2 * k) lo ∙ inv .long;
-  holds-set = λ o l. go o l (decLt o k);
+pub adds-more : {n i lo hi : ℕ} {p : ℕ → ℕ → Bool} → Added n p i lo hi → i < n → (lo' hi' : ℕ) → ((a : ℕ) → a < 128 → holds lo' hi' a ≡ (holds lo hi a || p i a))
+    → Added n p (i + 1) lo' hi'
+unfolding anyBelow
+adds-more {n} {i} {lo} {hi} {p} inv l lo' hi' f = record {
+  few = omega arith;
+  adds = λ a s. f a s ∙ ap (λ (b : Bool). b || p i a) (inv .adds a s) ∙ sym (ap (λ (k : ℕ). anyBelow k (λ v. p v a)) (add-one i));
 }
-  where
-    -- an entry that stays
-    stays : (i : ℕ) → i < 2 * k → getD (set (set x (2 * k) lo) (2 * k + 1) hi) i 0 ≡ getD x i 0
-    stays i l =
-        getD-set-other (set x (2 * k) lo) (2 * k + 1) i hi 0 (omega arith) ∙ getD-set-other x (2 * k) i lo 0 (omega arith)
 
-    low : getD (set (set x (2 * k) lo) (2 * k + 1) hi) (2 * k) 0 ≡ lo
-    low =
-        getD-set-other (set x (2 * k) lo) (2 * k + 1) (2 * k) hi 0 (omega arith) ∙ getD-set-same x (2 * k) lo 0 (omega (arith, inv .long))
+pub added : {n i lo hi : ℕ} {p : ℕ → ℕ → Bool} → Added n p i lo hi → n ≤ i → (a : ℕ) → a < 128 → holds lo hi a ≡ anyBelow n (λ v. p v a)
+added {n} {i} {lo} {hi} {p} inv l a s = inv .adds a s ∙ ap (λ (k : ℕ). anyBelow k (λ v. p v a)) (let z : i ≡ n = omega (arith, inv .few) in z)
 
-    high : getD (set (set x (2 * k) lo) (2 * k + 1) hi) (2 * k + 1) 0 ≡ hi
-    high = getD-set-same (set x (2 * k) lo) (2 * k + 1) hi 0 (omega (arith, inv .long, length-set x (2 * k) lo))
+-- the ways out of adding one operation
+module _ (lo hi a k : ℕ) (wanted : Bool) where
+  pub not-wanted : not wanted ≡ true → holds lo hi k ≡ (holds lo hi k || (wanted && eqb k a))
+  not-wanted h = sym (ap (λ (b : Bool). holds lo hi k || (b && eqb k a)) (not-true wanted h) ∙ or-false (holds lo hi k))
 
-    go : (o : ℕ) → o < k + 1 → Dec (o < k)
-        → P o (getD (set (set x (2 * k) lo) (2 * k + 1) hi) (2 * o) 0) (getD (set (set x (2 * k) lo) (2 * k + 1) hi) (2 * o + 1) 0)
-    go o l (yes m) =
-        subst (λ (a : ℕ). P o a (getD (set (set x (2 * k) lo) (2 * k + 1) hi) (2 * o + 1) 0)) (sym (stays (2 * o) (omega arith)))
-        (subst (P o (getD x (2 * o) 0)) (sym (stays (2 * o + 1) (omega arith))) (inv .holds-set o m))
-    go o l (no m) =
-        let z : o ≡ k = omega arith in
-        subst (λ (j : ℕ). P j (getD (set (set x (2 * k) lo) (2 * k + 1) hi) (2 * j) 0) (getD (set (set x (2 * k) lo) (2 * k + 1) hi) (2 * j + 1) 0)) (sym z)
-        (subst (λ (a : ℕ). P k a (getD (set (set x (2 * k) lo) (2 * k + 1) hi) (2 * k + 1) 0)) (sym low) (subst (P k lo) (sym high) h))
+  pub too-far : k < 128 → 128 ≤ a → holds lo hi k ≡ (holds lo hi k || (wanted && eqb k a))
+  too-far l h = sym (ap (λ (b : Bool). holds lo hi k || (wanted && b)) (ne-eqb k a (λ e. omega arith)) ∙ ap (λ (b : Bool). holds lo hi k || b) (and-false wanted) ∙ or-false (holds lo hi k))
+
+  pub put-in : {r : Bool} → not wanted ≡ false → r ≡ (holds lo hi k || eqb k a) → r ≡ (holds lo hi k || (wanted && eqb k a))
+  put-in h e = e ∙ ap (λ (b : Bool). holds lo hi k || (b && eqb k a)) (sym (not-false wanted h))
+
+-- the ways out of adding a rival
+module _ (lo hi marks role first processor a : ℕ) where
+  pub rival-R : {r m : Bool} → role ≡ 0 → m ≡ hasMark marks 256 → r ≡ (holds lo hi a || (m && eqb a (1 + first + processor))) → r ≡ (holds lo hi a || rivalBy marks role first processor a)
+  unfolding rivalBy
+  rival-R h m e =
+      e ∙ ap (λ (b : Bool). holds lo hi a || (b && eqb a (1 + first + processor))) m
+      ∙ ap (λ (b : Bool). holds lo hi a || cond b (hasMark marks 256 && eqb a (1 + first + processor)) (leb 3 role && (hasMark marks 128 && eqb a (1 + first + (role - 3))))) (sym (eq-eqb role 0 h))
+
+  pub rival-none : (role ≡ 0 → ⊥) → role < 3 → holds lo hi a ≡ (holds lo hi a || rivalBy marks role first processor a)
+  unfolding rivalBy
+  rival-none h l = sym (ap₂ (λ (b d : Bool). holds lo hi a || cond b (hasMark marks 256 && eqb a (1 + first + processor)) (d && (hasMark marks 128 && eqb a (1 + first + (role - 3))))) (ne-eqb role 0 h) (lt-leb 3 role l) ∙ or-false (holds lo hi a))
+
+  pub rival-RV : {r m : Bool} {q : ℕ} → (role ≡ 0 → ⊥) → 3 ≤ role → q ≡ role - 3 → m ≡ hasMark marks 128 → r ≡ (holds lo hi a || (m && eqb a (1 + first + q)))
+      → r ≡ (holds lo hi a || rivalBy marks role first processor a)
+  unfolding rivalBy
+  rival-RV {r} {m} {q} h l k e f =
+      f ∙ ap₂ (λ (b : Bool) (j : ℕ). holds lo hi a || (b && eqb a (1 + first + j))) e k
+      ∙ ap₂ (λ (b d : Bool). holds lo hi a || cond b (hasMark marks 256 && eqb a (1 + first + processor)) (d && (hasMark marks 128 && eqb a (1 + first + (role - 3))))) (sym (ne-eqb role 0 h)) (sym (le-leb 3 role l))
+
+-- the own RVs of an R's stores; another operation has none
+module _ (x : Execution) (t : Operations) (marks : List (List ℕ)) (o a : ℕ) where
+  abbrev besideOf : ℕ → ℕ → Bool
+  besideOf w v =
+      isStore (kindOf (getD (x .instructions .kinds) v 0))
+      && (eqb (getD (x .instructions .processors) v 0) (getD (x .instructions .processors) w 0) && eqb (getD (x .instructions .addresses) v 0 / 8) (getD (x .instructions .addresses) w 0 / 8))
+
+  pub bypass-R : (w : ℕ) → getD (t .roles) o 0 ≡ 0 → w ≡ getD (t .owners) o 0
+      → anyBelow (x .instructions .count) (λ v. besideOf w v && eqb a (1 + getD (x .instructions .firsts) v 0 + getD (x .instructions .processors) v 0))
+      ≡ anyBelow (x .instructions .count) (λ v. bypassOf x t marks o v a)
+  bypass-R w r q = rw (r, q) refl
+
+  pub bypass-none : (getD (t .roles) o 0 ≡ 0 → ⊥) → holds 0 0 a ≡ anyBelow (x .instructions .count) (λ v. bypassOf x t marks o v a)
+  bypass-none h = holds-none a ∙ rw (ne-eqb (getD (t .roles) o 0) 0 h) (sym (none (x .instructions .count)))
+    where
+      none : (n : ℕ) → anyBelow n (λ v. false) ≡ false
+      none n = any-below-and false (λ v. false) n

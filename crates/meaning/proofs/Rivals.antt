@@ -20,7 +20,7 @@ use Rattle.places.specs.Places.{placed, Placed}
 use Rattle.places.proofs.PlaceLaws.{member-placed, placed-absent}
 use Rattle.sets.specs.Set.{holds}
 use Rattle.marks.specs.Marks.{hasMark, markAt}
-use Rattle.admit.specs.Rows.{ownOf, localOf, rivals, rivalOf, writes}
+use Rattle.admit.specs.Rows.{ownOf, localOf, rivals, rivalBy, rivalOf, writes}
 use Rattle.admit.specs.Fits.{Standing, waitsFor, refused}
 use Rattle.reduction.proofs.Apart.{store-processor}
 use Rattle.meaning.proofs.Tables.{Tables, Holds}
@@ -187,16 +187,16 @@ module _ {t : Tables} (h : Holds t) (accepted : Accepted (executionOf (t .execut
   rivalAt v m = rivalOf (t .execution) (t .operations) (t .marks) x v m
 
   rival-load : (v m : ℕ) → roleNumber ≡ 0 → rivalAt v m ≡ (hasMark (markAt (t .marks) v owner) 256 && eqb m (1 + instruction v .first + instruction v .processor))
-  unfolding rivalOf instructionAt
+  unfolding rivalBy instructionAt
   rival-load v m r = rw (eq-eqb roleNumber 0 r) refl
 
   rival-store : (v m : ℕ) → (roleNumber ≡ 0 → ⊥) → 3 ≤ roleNumber
       → rivalAt v m ≡ (hasMark (markAt (t .marks) v owner) 128 && eqb m (1 + instruction v .first + (roleNumber - 3)))
-  unfolding rivalOf instructionAt
+  unfolding rivalBy instructionAt
   rival-store v m z r = rw (ne-eqb roleNumber 0 z, le-leb 3 roleNumber r) refl
 
   rival-none : (v m : ℕ) → (roleNumber ≡ 0 → ⊥) → roleNumber < 3 → rivalAt v m ≡ false
-  unfolding rivalOf
+  unfolding rivalBy
   rival-none v m z r = rw (ne-eqb roleNumber 0 z, lt-leb 3 roleNumber r) refl
 
   -- a rival that must be waited for is an instruction that refuses

@@ -192,9 +192,9 @@ module _ {t : Tables} (h : Holds t) (accepted : Accepted (executionOf (t .execut
     bypassAt v m = bypassOf (t .execution) (t .operations) (t .marks) x v m
 
     bypass-is : (v m : ℕ) → bypassAt v m
-        ≡ (isStore (instruction v .kind) && (eqb (instruction v .processor) (load .processor)
-        && (eqb (instruction v .address / 8) (load .address / 8) && eqb m (1 + instruction v .first + instruction v .processor))))
-    unfolding bypassOf instructionAt
+        ≡ (isStore (instruction v .kind) && (eqb (instruction v .processor) (load .processor) && eqb (instruction v .address / 8) (load .address / 8))
+        && eqb m (1 + instruction v .first + instruction v .processor))
+    unfolding instructionAt
     bypass-is v m = rw (eq-eqb role 0 reads) refl
 
     is-member : (o : ℕ) → o < operations e → holds lo hi o ≡ member xs o
@@ -245,14 +245,14 @@ module _ {t : Tables} (h : Holds t) (accepted : Accepted (executionOf (t .execut
         ∙ sym local-any
       where
         from : (v m : ℕ) → v < t .execution .instructions .count
-            → (isStore (instruction v .kind) && (eqb (instruction v .processor) (load .processor)
-            && (eqb (instruction v .address / 8) (load .address / 8) && eqb m (1 + instruction v .first + instruction v .processor)))) ≡ true
+            → (isStore (instruction v .kind) && (eqb (instruction v .processor) (load .processor) && eqb (instruction v .address / 8) (load .address / 8))
+            && eqb m (1 + instruction v .first + instruction v .processor)) ≡ true
             → not (holds lo hi m) ≡ true → (ltb (localOf (t .rows) m) 128 && holds lo hi (localOf (t .rows) m)) ≡ true → bit (writtenBits (t .rows) m) i ≡ true
             → any (λ w. accesses w b && pends w) (stores e) ≡ true
         from v m l r gone stands wrote =
-            let (sv, r1) = and-parts (isStore (instruction v .kind)) _ r in
-            let (r2, r3) = and-parts (eqb (instruction v .processor) (load .processor)) _ r1 in
-            let (r4, r5) = and-parts (eqb (instruction v .address / 8) (load .address / 8)) (eqb m (1 + instruction v .first + instruction v .processor)) r3 in
+            let (r0, r5) = and-parts (isStore (instruction v .kind) && (eqb (instruction v .processor) (load .processor) && eqb (instruction v .address / 8) (load .address / 8))) (eqb m (1 + instruction v .first + instruction v .processor)) r in
+            let (sv, r1) = and-parts (isStore (instruction v .kind)) (eqb (instruction v .processor) (load .processor) && eqb (instruction v .address / 8) (load .address / 8)) r0 in
+            let (r2, r4) = and-parts (eqb (instruction v .processor) (load .processor)) (eqb (instruction v .address / 8) (load .address / 8)) r1 in
             let own = eqb-true (instruction v .processor) (load .processor) r2 in
             let line : instruction v .address / 8 ≡ b / 8 = eqb-true (instruction v .address / 8) (load .address / 8) r4 ∙ sym (its .one-line) in
             let is : m ≡ 1 + instruction v .first + instruction v .processor = eqb-true m (1 + instruction v .first + instruction v .processor) r5 in
@@ -279,7 +279,7 @@ module _ {t : Tables} (h : Holds t) (accepted : Accepted (executionOf (t .execut
             (and-both (and-both (and-both
             (h .rowed x low .bypasses-are o o-low
             ∙ any-passes (λ u. bypassAt u o) (t .execution .instructions .count) v l
-            (bypass-is v o ∙ and-both sv (and-both (eq-eqb (instruction v .processor) (load .processor) own) (and-both (eq-eqb (instruction v .address / 8) (load .address / 8) (line ∙ its .one-line)) (eq-eqb o o refl)))))
+            (bypass-is v o ∙ and-both (and-both sv (and-both (eq-eqb (instruction v .processor) (load .processor) own) (eq-eqb (instruction v .address / 8) (load .address / 8) (line ∙ its .one-line)))) (eq-eqb o o refl)))
             (absent v l sv own ∙ ap (λ (u : Instruction). not (member xs (numberOf u (RV (load .processor))))) q ∙ k6))
             (stands-local v l sv own ∙ ap (λ (u : Instruction). member xs (numberOf u LV)) q ∙ k5))
             (wrote-bit v l sv own line ∙ reach))
