@@ -1,0 +1,2 @@
+-- The laws of this crate, open to the crates above it.
+pub mod LineLaws

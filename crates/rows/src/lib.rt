@@ -1,0 +1,2 @@
+// What is compiled of an execution, made once for each call.
+pub mod line;
