@@ -186,7 +186,10 @@ pub fn rivals_at(x: Execution, t: Operations, marks: &[[u16; 40]; 40], o: usize)
 fn is_beside(kind: u8, processor: u8, address: u8, own: u8, line: u8) -> bool
     ensures { λ r. ⌜ r ≡ (isStore (kindOf kind) && (eqb processor own && eqb (address / 8) line)) ⌝ }
 {
-    both(is_store(kind_of(kind)), both(processor == own, address / 8 == line))
+    both(
+        is_store(kind_of(kind)),
+        both(processor == own, address / 8 == line),
+    )
 }
 
 // The own RVs of the stores of its processor to its line, where operation o is an R.

@@ -86,6 +86,29 @@ within {processors} {lines} {i} s a h = go (isFence (i .kind)) (s .size-passed) 
         let (one, few) = aligned (i .address) (i .size) a (sizes (i .size) m) d1 l r in
         record { one-line = one; few = few; from = l; to = r; there = omega (arith, leb-true (i .address + i .size) (8 * lines) d2) }
 
+-- and so it fits into that line
+fits-one : (address size : ℕ) → (size ≡ 1) ⊎ (size ≡ 2) ⊎ (size ≡ 4) ⊎ (size ≡ 8) → eqb (address % size) 0 ≡ true → address % 8 + size ≤ 8
+fits-one address size (inl e) m = omega arith
+fits-one address size (inr (inl e)) m = let z : address % 2 ≡ 0 = eqb-true (address % 2) 0 (ap (λ (s : ℕ). eqb (address % s) 0) (sym e) ∙ m) in omega arith
+fits-one address size (inr (inr (inl e))) m = let z : address % 4 ≡ 0 = eqb-true (address % 4) 0 (ap (λ (s : ℕ). eqb (address % s) 0) (sym e) ∙ m) in omega arith
+fits-one address size (inr (inr (inr e))) m = let z : address % 8 ≡ 0 = eqb-true (address % 8) 0 (ap (λ (s : ℕ). eqb (address % s) 0) (sym e) ∙ m) in omega arith
+
+pub fits-line : {processors lines : ℕ} {i : Instruction} → Sound processors lines i → i .address % 8 + i .size ≤ 8
+unfolding question7 question8 member
+fits-line {processors} {lines} {i} s = go (isFence (i .kind)) (s .size-passed) (s .address-passed)
+  where
+    none : (size : ℕ) → member (0 ∷ []) size ≡ true → size ≡ 0
+    none size m = by (eqb 0 size) refl m
+      where
+        by : (b : Bool) → eqb 0 size ≡ b → (b || false) ≡ true → size ≡ 0
+        by true e k = sym (eqb-true 0 size e)
+        by false e k = clash k refl
+
+    go : (f : Bool) → member (cond f (0 ∷ []) (1 ∷ 2 ∷ 4 ∷ 8 ∷ [])) (i .size) ≡ true
+        → cond f (eqb (i .address) 0) (eqb (i .address % i .size) 0 && leb (i .address + i .size) (8 * lines)) ≡ true → i .address % 8 + i .size ≤ 8
+    go true m d = omega (arith, none (i .size) m, eqb-true (i .address) 0 d)
+    go false m d = fits-one (i .address) (i .size) (sizes (i .size) m) (and-parts (eqb (i .address % i .size) 0) (leb (i .address + i .size) (8 * lines)) d .0)
+
 module _ (x : Execution) (accepted : Accepted (executionOf x)) where
   abbrev e : model.Execution
   e = executionOf x

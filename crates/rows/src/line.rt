@@ -6,8 +6,8 @@ ghost use lib.ListN.{length, getD};
 ghost use lib.Dec.{eqb, leb, ltb};
 ghost use Rattle.base.specs.Bits.{bit};
 ghost use Rattle.admit.specs.Rows.{covers, dataBit, Bytes};
-use decoded::types::Lines;
 use decoded::types::Execution;
+use decoded::types::Lines;
 use decoded::types::wide;
 
 // A word, with a byte at a place among its eight where nothing stands yet.

@@ -59,7 +59,7 @@ loop-again c =
     let s = c .before .before .before .before .before .before .minus .result in (
       over (s .lo) (s .hi) _ (c .first2 .ensures),
       over-next (s .lo) (s .hi) (waitsFor (a .rows .now) (a .places .now) (a .x)) (c .before .before .before .before .loop .inv .0) (c .before .before .before .loop-test .taken) (c .first2 .ensures)
-      ∙ ap₂ _||_ (c .before .before .before .before .loop .inv .1) (sym (c .before .before .waits-for .ensures) ∙ c .before .if1 .left),
+          ∙ ap₂ _||_ (c .before .before .before .before .loop .inv .1) (sym (c .before .before .waits-for .ensures) ∙ c .before .if1 .left),
     )
 
 returns-2 : tie.Need-returns-2 Inv-loop μ-loop

@@ -58,7 +58,7 @@ loop-again c =
     let s = c .before .before .before .before .before .minus .result in (
       over (s .lo) (s .hi) _ (c .first2 .ensures),
       λ i. has-or (c .before .before .before .loop .bits) (c .before .bits-of .result) i ∙ ap₂ _||_ (c .before .before .before .loop .inv .1 i) (c .before .bits-of .ensures i)
-      ∙ sym (over-next (s .lo) (s .hi) (λ k. standsLocal (a .rows .now) (a .stand .lo) (a .stand .hi) k && bit (writtenBits (a .rows .now) k) i) (c .before .before .before .loop .inv .0) (c .before .before .loop-test .taken) (c .first2 .ensures)),
+          ∙ sym (over-next (s .lo) (s .hi) (λ k. standsLocal (a .rows .now) (a .stand .lo) (a .stand .hi) k && bit (writtenBits (a .rows .now) k) i) (c .before .before .before .loop .inv .0) (c .before .before .loop-test .taken) (c .first2 .ensures)),
     )
 
 returns : tie.Need-returns Inv-loop μ-loop
