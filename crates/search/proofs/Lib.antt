@@ -4,3 +4,4 @@ pub mod Onward
 pub mod ReplayLaws
 pub mod Going
 pub mod DriveLaws
+pub mod CallLaws

@@ -1,4 +1,5 @@
 // The search: the first legal order, in calls of any allowance, from a saved position.
+pub mod call;
 pub mod drive;
 pub mod position;
 pub mod replay;
