@@ -1,0 +1,4 @@
+-- The laws of this crate.
+pub mod TextLaws
+pub mod DigitLaws
+pub mod CallLaws
