@@ -49,6 +49,14 @@ spell-starts {n} {bytes} h l = record {
   decides = sym (ap (λ (t : List ℕ). decimal n ++ t) (drop-of-length-le bytes {i = 20} (omega (arith, l))) ∙ append-nil (decimal n));
 }
 
+-- more than one digit is left: there is room for them
+pub spell-room : {n first rest : ℕ} {bytes : List ℕ} → Spelled n first rest bytes → 9 < rest → 1 ≤ first
+spell-room {n} {first} {rest} {bytes} inv h = go first (inv .small)
+  where
+    go : (k : ℕ) → rest < 10 ^ suc k → 1 ≤ k
+    go zero l = absurd (omega arith)
+    go (suc k) l = omega arith
+
 pub spell-turns : (n first rest : ℕ) {bytes : List ℕ} → Spelled n first rest bytes → 9 < rest
     → Spelled n (first - 1) (rest / 10) (set bytes first (48 + rest % 10))
 spell-turns n zero rest {bytes} inv h = absurd (omega (arith, inv .small))

@@ -1,5 +1,6 @@
 -- Text written piece after piece, and what stands in the buffer in the end.
 use Prim.Native.Nat.{ℕ, zero, suc, _+_, _≤_, _<_, min}
+use native.Mathlib.Numerals.{add-one}
 use native.Mathlib.Omega.{arith}
 use mathlib.Core.Path.{_≡_, refl, sym, ap, ap₂, _∙_, subst}
 use mathlib.Core.Bool.{Bool, true, false, cond}
@@ -8,7 +9,9 @@ use lib.ListN.{length, take, drop, set, getD, length-set, length-append, take-ap
 use lib.Seq.{take-all, take-suc-set, drop-set-lt, append-snoc, take-append-le, take-suc}
 use lib.Dec.{ltb}
 use borrow.Author.Tests.{lt-ltb, le-ltb, ltb-true, ltb-false}
+use Rattle.base.specs.Lists.{for}
 use Rattle.base.proofs.Bools.{split}
+use Rattle.base.proofs.Lists.{for-append, for-one}
 use Rattle.verdict.specs.Texts.{printed, Text, withByte, withBytes, Appends}
 
 abbrev text : List ℕ → ℕ → Text
@@ -108,3 +111,37 @@ appends-printed {x} {bytes} {y} {n} a =
       ap (λ (t : Text). t .buffer) e ∙ ap (λ (k : ℕ). take (length x) (bytes ++ drop k x)) z,
       ap (λ (t : Text). t .next) e ∙ ap (λ (k : ℕ). min k (length x)) z,
     )
+
+-- The invariant of a loop that writes something for each element of a list: it is written for the first i.
+pub record Writing (x : List ℕ) (at : ℕ) (l : List ℕ) (f : ℕ → List ℕ) (i : ℕ) (y : List ℕ) (next : ℕ) : Type 0 where
+  pub within : i ≤ length l
+  pub long : length y ≡ length x
+  pub so-far : Appends x at (for (take i l) f) y next
+
+pub writes-start : {x : List ℕ} {at : ℕ} {l : List ℕ} {f : ℕ → List ℕ} → Writing x at l f 0 x at
+unfolding for
+writes-start {x} {at} {l} {f} = record { within = omega arith; long = refl; so-far = appends-none }
+
+module _ {x : List ℕ} {at : ℕ} {l : List ℕ} {f : ℕ → List ℕ} {i : ℕ} {y : List ℕ} {next : ℕ} (inv : Writing x at l f i y next) where
+  pub writes-turn : {z : List ℕ} {k : ℕ} → i < length l → length z ≡ length y → Appends y next (f (getD l i 0)) z k → Writing x at l f (i + 1) z k
+  writes-turn {z} {k} h e a = record {
+    within = omega arith;
+    long = e ∙ inv .long;
+    so-far =
+        appends-same
+        (sym (
+          ap (λ (j : ℕ). for (take j l) f) (add-one i)
+          ∙ ap (λ (t : List ℕ). for t f) (take-suc l i 0 h)
+          ∙ for-append (take i l) (getD l i 0 ∷ []) f
+          ∙ ap (λ (t : List ℕ). for (take i l) f ++ t) (for-one (getD l i 0) f)))
+        (appends-both (inv .so-far) a);
+  }
+
+  pub writes-end : length l ≤ i → Appends x at (for l f) y next
+  writes-end h = appends-same (ap (λ (t : List ℕ). for t f) (take-all i l h)) (inv .so-far)
+
+-- bytes one by one
+pub for-bytes : (l : List ℕ) → for l (λ b. b ∷ []) ≡ l
+unfolding for
+for-bytes [] = refl
+for-bytes (b ∷ l) = ap (λ (t : List ℕ). b ∷ t) (for-bytes l)
