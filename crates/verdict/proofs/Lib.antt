@@ -2,3 +2,4 @@
 pub mod TextLaws
 pub mod DigitLaws
 pub mod CallLaws
+pub mod LineLaws

@@ -10,6 +10,10 @@ use lib.Dec.{ltb}
 unfoldable pub printed : List ℕ → List ℕ → List ℕ
 printed buffer text = take (length buffer) (text ++ drop (length text) buffer)
 
+-- room for the lines of any verdict
+abbrev pub linesLimit : ℕ
+linesLimit = 4096
+
 -- a buffer, and the index where the next byte goes
 pub record Text : Type 0 where
   pub buffer : List ℕ

@@ -4,9 +4,9 @@ ghost use mathlib.Core.List.{_++_};
 ghost use Prim.Native.Nat.{_≤_, min};
 ghost use lib.ListN.{length, take};
 ghost use Rattle.base.specs.Lists.{for};
-ghost use Rattle.model.specs.Verdict.{blank, lineFeed, wordSteps, decimal, lines, verdictLines};
+ghost use Rattle.model.specs.Verdict.{inputLimit, blank, lineFeed, wordSteps, decimal, lines, verdictLines};
 ghost use Rattle.verdict.specs.Totals.{totalOf};
-ghost use Rattle.verdict.specs.Texts.{Appends, printed};
+ghost use Rattle.verdict.specs.Texts.{Appends, linesLimit, printed};
 mod calls;
 mod text;
 
@@ -81,12 +81,21 @@ fn write_lines(out: &mut [u8], total: Total) -> usize
     }
 }
 
-// Writes the verdict on a record at the front of a buffer, as far as there is room, and answers how many bytes it wrote.
-pub fn verdict(input: &[u8], out: &mut [u8]) -> usize
-    ensures { λ r. ⌜ (now (out .exit) ≡ printed (now (out .entry)) (verdictLines (now (input .entry)))) × (r ≡ min (length (verdictLines (now (input .entry)))) (length (now (out .entry)))) × (length (verdictLines (now (input .entry))) ≤ 4096) ⌝ }
+// The bytes that are taken as the record.
+fn record_of(input: &[u8]) -> &[u8]
+    ensures { λ r. ⌜ now r ≡ take inputLimit (now (input .entry)) ⌝ }
 {
     if INPUT_LIMIT < input.len() {
-        return write_lines(out, search_in_calls(&input[..INPUT_LIMIT]));
+        return &input[..INPUT_LIMIT];
     }
-    write_lines(out, search_in_calls(input))
+    input
+}
+
+// Writes the verdict on a record at the front of a buffer, as far as there is room, and answers how many bytes it wrote.
+pub fn verdict(input: &[u8], out: &mut [u8]) -> usize
+    ensures { λ r. ⌜ (now (out .exit) ≡ printed (now (out .entry)) (verdictLines (now (input .entry)))) × (r ≡ min (length (verdictLines (now (input .entry)))) (length (now (out .entry)))) × (length (verdictLines (now (input .entry))) ≤ linesLimit) ⌝ }
+{
+    let bytes = record_of(input);
+    let total = search_in_calls(bytes);
+    write_lines(out, total)
 }

@@ -1,51 +1,47 @@
+-- Each turn writes one operation number.
+use Prim.Native.Nat.{_-_}
+use native.Mathlib.Omega.{arith}
+use mathlib.Core.Path.{_≡_, refl}
+use mathlib.Core.List.{_++_}
+use lib.ListN.{length}
+use Rattle.model.specs.Verdict.{blank, decimal}
+use Rattle.verdict.proofs.TextLaws.{Writing, writes-start, writes-turn, writes-end}
 use borrow.Author.Needs.{needs}
 use Rattle.verdict.proofs.write_order.Statement.{statement}
 use Rattle.verdict.proofs.write_order.Tie as tie
-use Rattle.verdict.proofs.write_order.Reads as reads
-use Rattle.verdict.proofs.write_order.Lts as lts
-use Rattle.verdict.proofs.write_number.Reads as write-number-reads
 
 abbrev Inv-loop : tie.InvT-loop
-Inv-loop out₀ at order next₀ i₀ i-end out next i = ?
+Inv-loop out₀ at order next₀ i₀ i-end out next i = (i-end ≡ length order) × Writing out₀ at order (λ o. blank ++ decimal o) i out next
 
 abbrev μ-loop : tie.MeasureT-loop
-μ-loop out₀ at order next₀ i₀ i-end out next i = ?
+μ-loop out₀ at order next₀ i₀ i-end out next i = length order - i
 
--- src/lib.rt:36:5
 loop-holds : tie.Need-loop-holds Inv-loop μ-loop
-loop-holds c = search needs
+loop-holds c = (refl, writes-start)
 
--- src/lib.rt:37:17
 shared-slice-read-o : tie.Need-shared-slice-read-o Inv-loop μ-loop
 shared-slice-read-o c = search needs
 
--- src/lib.rt:37:17
 cast-o : tie.Need-cast-o Inv-loop μ-loop
-cast-o c = search needs
+cast-o c = record { fits = omega (arith, c .shared-slice-known2 .given (c .before .before .loop .i)) }
 
--- src/lib.rt:38:9
 write-number-requires : tie.Need-write-number-requires Inv-loop μ-loop
 write-number-requires c κs = search needs
 
--- src/lib.rt:36:9
 add-i : tie.Need-add-i Inv-loop μ-loop
 add-i c = search needs
 
--- src/lib.rt:36:5
 loop-less : tie.Need-loop-less Inv-loop μ-loop
-loop-less c = search needs
+loop-less c = omega arith
 
--- src/lib.rt:36:5
 loop-again : tie.Need-loop-again Inv-loop μ-loop
-loop-again c = search needs
+loop-again c = (refl, writes-turn (c .before .before .before .before .before .before .loop .inv .1) (omega arith) (c .before .before .write-number .kept .0) (c .before .before .write-number .ensures))
 
--- src/lib.rt:32:1
 same-length : tie.Need-same-length Inv-loop μ-loop
 same-length c = search needs
 
--- src/lib.rt:32:1
 returns : tie.Need-returns Inv-loop μ-loop
-returns c = search needs
+returns c = writes-end (c .before .loop .inv .1) (omega arith)
 
 pub write-order-spec : {M : Type 1} → statement M
 write-order-spec =

@@ -1,38 +1,36 @@
+-- The digits are written as they were found.
+use Prim.Native.Nat.{ℕ, _-_}
+use mathlib.Core.Path.{sym, ap, _∙_}
+use lib.ListN.{take, drop}
+use Rattle.base.proofs.Copies.{rest}
+use Rattle.verdict.proofs.TextLaws.{appends-same}
 use borrow.Author.Needs.{needs}
 use Rattle.verdict.proofs.text.write_decimal.Statement.{statement}
 use Rattle.verdict.proofs.text.write_decimal.Tie as tie
-use Rattle.verdict.proofs.text.write_decimal.Reads as reads
-use Rattle.verdict.proofs.text.write_decimal.Lts as lts
-use Rattle.verdict.proofs.text.digits_of.Reads as digits-of-reads
-use Rattle.verdict.proofs.text.write_word.Reads as write-word-reads
 
--- src/text.rt:57:9
 digits-of-requires : tie.Need-digits-of-requires
 digits-of-requires c κs = search needs
 
--- src/text.rt:60:25
 sub-write-word : tie.Need-sub-write-word
 sub-write-word c = search needs
 
--- src/text.rt:60:25
 part-write-word-start : tie.Need-part-write-word-start
 part-write-word-start c = search needs
 
--- src/text.rt:60:25
 part-write-word-end : tie.Need-part-write-word-end
 part-write-word-end c = search needs
 
--- src/text.rt:60:5
 write-word-requires : tie.Need-write-word-requires
 write-word-requires c κs = search needs
 
--- src/text.rt:54:1
 same-length : tie.Need-same-length
 same-length c = search needs
 
--- src/text.rt:54:1
 returns : tie.Need-returns
-returns c = search needs
+returns c =
+    let found = c .before .before .before .before .before .before .before .digits-of in
+    appends-same (ap (λ (k : ℕ). take (k - found .result .first) (drop (found .result .first) (found .result .bytes))) (sym (found .ensures .2)) ∙ rest (found .result .first) (found .result .bytes) ∙ found .ensures .0)
+    (c .before .before .write-word .ensures)
 
 pub write-decimal-spec : {M : Type 1} → statement M
 write-decimal-spec =
