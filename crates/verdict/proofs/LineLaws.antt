@@ -1,9 +1,10 @@
 -- The lines of what the calls came to: by cases of the answer, how long they are at most, and that they are the program's.
 use Prim.Native.Nat.{ℕ, suc, _+_, _*_, _≤_, min}
 use native.Mathlib.Omega.{arith}
-use mathlib.Core.Path.{_≡_, refl, sym, ap, _∙_, subst}
+use mathlib.Core.Path.{_≡_, refl, sym, ap, ap₂, _∙_, subst}
 use mathlib.Core.List.{List, [], _∷_, _++_}
-use lib.ListN.{length, take, length-append, length-take}
+use lib.ListN.{length, take, drop, length-append, length-take}
+use lib.Seq.{take-take, take-append-seam}
 use Rattle.base.specs.Lists.{for}
 use Rattle.model.specs.Search.{Verdict, allowed, forbidden, unfinished}
 use Rattle.model.specs.Calls as calls
@@ -65,3 +66,10 @@ verdict-written {x} {y} {n} input t e l a =
     let same : lines (totalOf t) ≡ verdictLines input = ap lines e in
     let w = appends-printed (appends-same same a) in
     (w .0, w .1, subst (λ (text : List ℕ). length text ≤ linesLimit) same (lines-length (totalOf t) l))
+
+-- with room for all of it, the text stands whole at the front
+pub printed-whole : (x : List ℕ) {text y : List ℕ} {n : ℕ} → y ≡ printed x text → n ≡ min (length text) (length x) → length text ≤ length x → take n y ≡ text
+unfolding printed
+printed-whole x {text} {y} {n} made count room =
+    let all : n ≡ length text = omega arith in
+    ap₂ take all made ∙ take-take (length text) (length x) (text ++ drop (length text) x) room ∙ take-append-seam text (drop (length text) x)

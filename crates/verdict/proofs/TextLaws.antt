@@ -67,9 +67,9 @@ unfolding withBytes
 reaches [] x at h =
     ap₂ text
     (sym (
-      ap (take (length x)) (
-      ap₂ _++_ (append-nil (take at x)) (ap (λ (k : ℕ). drop k x) (let z : at + 0 ≡ at = omega arith in z)) ∙ take-append-drop at x)
-      ∙ take-all (length x) x (omega arith)))
+    ap (take (length x)) (
+    ap₂ _++_ (append-nil (take at x)) (ap (λ (k : ℕ). drop k x) (let z : at + 0 ≡ at = omega arith in z)) ∙ take-append-drop at x)
+    ∙ take-all (length x) x (omega arith)))
     (omega arith)
 reaches (b ∷ bytes) x at h =
     split (ltb at (length x)) (λ t. room (ltb-true at (length x) t) (reaches bytes (set x at b) (suc at) (omega (arith, ltb-true at (length x) t, length-set x at b))))
@@ -86,9 +86,9 @@ reaches (b ∷ bytes) x at h =
         ∙ rest
         ∙ ap₂ text
         (ap₂ take (length-set x at b) (
-          ap₂ _++_
-          (ap (λ (l : List ℕ). l ++ bytes) (take-suc-set x at b l) ∙ append-snoc (take at x) b bytes)
-          (drop-set-lt (suc at + length bytes) x at b (omega arith) ∙ ap (λ (k : ℕ). drop k x) (sym more))))
+        ap₂ _++_
+        (ap (λ (l : List ℕ). l ++ bytes) (take-suc-set x at b l) ∙ append-snoc (take at x) b bytes)
+        (drop-set-lt (suc at + length bytes) x at b (omega arith) ∙ ap (λ (k : ℕ). drop k x) (sym more))))
         (ap₂ min (sym more) (length-set x at b))
 
     spent : length x ≤ at → withBytes (withByte (text x at) b) bytes ≡ text (shown x at (b ∷ bytes)) (min (at + length (b ∷ bytes)) (length x))
@@ -97,10 +97,10 @@ reaches (b ∷ bytes) x at h =
         ∙ full bytes x at l
         ∙ ap₂ text
         (sym (
-          ap (take (length x)) (append-assoc (take at x) (b ∷ bytes) (drop (at + length (b ∷ bytes)) x))
-          ∙ ap (λ (l : List ℕ). take (length x) (l ++ ((b ∷ bytes) ++ drop (at + length (b ∷ bytes)) x))) (take-all at x l)
-          ∙ take-append-le (length x) x ((b ∷ bytes) ++ drop (at + length (b ∷ bytes)) x) (omega arith)
-          ∙ take-all (length x) x (omega arith)))
+        ap (take (length x)) (append-assoc (take at x) (b ∷ bytes) (drop (at + length (b ∷ bytes)) x))
+        ∙ ap (λ (l : List ℕ). take (length x) (l ++ ((b ∷ bytes) ++ drop (at + length (b ∷ bytes)) x))) (take-all at x l)
+        ∙ take-append-le (length x) x ((b ∷ bytes) ++ drop (at + length (b ∷ bytes)) x) (omega arith)
+        ∙ take-all (length x) x (omega arith)))
         (omega arith)
 
 pub appends-printed : {x bytes y : List ℕ} {n : ℕ} → Appends x 0 bytes y n → (y ≡ printed x bytes) × (n ≡ min (length bytes) (length x))
@@ -130,10 +130,10 @@ module _ {x : List ℕ} {at : ℕ} {l : List ℕ} {f : ℕ → List ℕ} {i : �
     so-far =
         appends-same
         (sym (
-          ap (λ (j : ℕ). for (take j l) f) (add-one i)
-          ∙ ap (λ (t : List ℕ). for t f) (take-suc l i 0 h)
-          ∙ for-append (take i l) (getD l i 0 ∷ []) f
-          ∙ ap (λ (t : List ℕ). for (take i l) f ++ t) (for-one (getD l i 0) f)))
+        ap (λ (j : ℕ). for (take j l) f) (add-one i)
+        ∙ ap (λ (t : List ℕ). for t f) (take-suc l i 0 h)
+        ∙ for-append (take i l) (getD l i 0 ∷ []) f
+        ∙ ap (λ (t : List ℕ). for (take i l) f ++ t) (for-one (getD l i 0) f)))
         (appends-both (inv .so-far) a);
   }
 

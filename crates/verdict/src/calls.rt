@@ -11,6 +11,7 @@ use search::position::Position;
 
 // The most calls, and the steps that each may make.
 pub const CALL_LIMIT: u64 = 100;
+
 pub const CALL_ALLOWANCE: u32 = 1_000_000;
 
 // What the calls came to: the last answer, the steps of all, and the position that the last one left.

@@ -7,6 +7,7 @@ ghost use Rattle.base.specs.Lists.{for};
 ghost use Rattle.model.specs.Verdict.{inputLimit, blank, lineFeed, wordSteps, decimal, lines, verdictLines};
 ghost use Rattle.verdict.specs.Totals.{totalOf};
 ghost use Rattle.verdict.specs.Texts.{Appends, linesLimit, printed};
+
 mod calls;
 mod text;
 
@@ -18,6 +19,7 @@ use search::call::SearchAnswer;
 
 // The most bytes that are taken as the record, and room for the lines of any verdict.
 pub const INPUT_LIMIT: usize = 1024;
+
 pub const LINES_LIMIT: usize = 4096;
 
 // Writes a blank and a number.
@@ -45,8 +47,8 @@ fn write_steps(out: &mut [u8], at: usize, steps: u64) -> usize
     ensures { λ r. ⌜ Appends (now (out .entry)) at (wordSteps ++ blank ++ decimal steps ++ lineFeed) (now (out .exit)) r ⌝ }
 {
     let word = write_word(out, at, b"steps");
-    let number = write_number(out, word, steps);
-    write_word(out, number, b"\n")
+    let count = write_number(out, word, steps);
+    write_word(out, count, b"\n")
 }
 
 // Writes the lines for what the calls came to.
