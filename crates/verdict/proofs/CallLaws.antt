@@ -1,9 +1,9 @@
 -- Call after call, while the search is unfinished.
 use Prim.Native.Nat.{ℕ, zero, suc, _+_, _*_, _-_, _^_, _≤_, _<_}
 use native.Mathlib.Omega.{arith}
-use mathlib.Core.Path.{_≡_, refl, sym, ap, ap₂, _∙_, subst}
+use mathlib.Core.Path.{_≡_, refl, sym, ap, _∙_}
 use mathlib.Core.Bool.{Bool, true, false, cond, false≢true}
-use mathlib.Core.List.{List, [], _∷_, _++_}
+use mathlib.Core.List.{List}
 use lib.ListN as ListN
 use lib.ListN.{drop, replicate, length-append}
 use Rattle.model.specs.Search.{Verdict, allowed, forbidden, unfinished}
@@ -11,7 +11,6 @@ use Rattle.model.specs.Calls as calls
 use Rattle.model.specs.Calls.{Answer, says, refuses, answerOf, searching, searchReply, searchCall}
 use Rattle.model.specs.Verdict.{callAllowance, callLimit, isUnfinished, callOnce, callOn, notCalled}
 use Rattle.search.specs.Calls.{answerMeant, replyOf}
-use Rattle.search.specs.declared.call.SearchAnswer.{SearchAnswer}
 use Rattle.search.specs.declared.call.SearchReply.{SearchReply}
 
 is-unfinished : (a : Answer Verdict) → isUnfinished a ≡ true → a ≡ says unfinished
@@ -50,7 +49,7 @@ pub calls-start : {bytes : List ℕ} → Calling bytes 0 0 0 (replicate 128 0)
 calls-start {bytes} = record { within = omega arith; few = omega arith; short = omega arith; long = refl; decides = refl }
 
 module _ {bytes : List ℕ} {made steps length : ℕ} {buffer : List ℕ} (inv : Calling bytes made steps length buffer)
-    (r : SearchReply) {left : List ℕ} (same : replyOf r left ≡ searchCall bytes buffer length 1_000_000) (kept : ListN.length left ≡ ListN.length buffer) where
+    (r : SearchReply) {left : List ℕ} (same : replyOf r left ≡ searchCall bytes buffer length callAllowance) (kept : ListN.length left ≡ ListN.length buffer) where
   one-more : made < 100 → callOn bytes callLimit notCalled ≡ callOn bytes (100 - (made + 1)) (total (answerMeant (r .answer)) (steps + r .steps) (r .length) left)
   unfolding callOn callOnce
   one-more h =
@@ -65,7 +64,7 @@ module _ {bytes : List ℕ} {made steps length : ℕ} {buffer : List ℕ} (inv :
         arith,
         inv .long,
         ap (λ (q : calls.SearchReply). q .length) same,
-        reply-short length buffer (answerOf (searching buffer length 1_000_000 bytes)) (omega (arith, inv .short, inv .long)) (ap (λ (q : calls.SearchReply). ListN.length (q .buffer)) (sym same) ∙ kept),
+        reply-short length buffer (answerOf (searching buffer length callAllowance bytes)) (omega (arith, inv .short, inv .long)) (ap (λ (q : calls.SearchReply). ListN.length (q .buffer)) (sym same) ∙ kept),
       )
 
   pub calls-turn : made < 100 → r .steps < 2 ^ 32 → isUnfinished (answerMeant (r .answer)) ≡ true → Calling bytes (made + 1) (steps + r .steps) (r .length) left

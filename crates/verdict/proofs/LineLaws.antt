@@ -1,7 +1,7 @@
 -- The lines of what the calls came to: by cases of the answer, how long they are at most, and that they are the program's.
-use Prim.Native.Nat.{ℕ, suc, _+_, _*_, _≤_, min}
+use Prim.Native.Nat.{ℕ, _*_, _≤_}
 use native.Mathlib.Omega.{arith}
-use mathlib.Core.Path.{_≡_, refl, sym, ap, ap₂, _∙_, subst}
+use mathlib.Core.Path.{_≡_, sym, ap, ap₂, _∙_, subst}
 use mathlib.Core.List.{List, [], _∷_, _++_}
 use lib.ListN.{length, take, drop, length-append, length-take}
 use lib.Seq.{take-take, take-append-seam}
@@ -9,12 +9,12 @@ use Rattle.base.specs.Lists.{for}
 use Rattle.model.specs.Search.{Verdict, allowed, forbidden, unfinished}
 use Rattle.model.specs.Calls as calls
 use Rattle.model.specs.Calls.{Answer, says, refuses}
-use Rattle.model.specs.Verdict.{inputLimit, callLimit, notCalled, callOn, blank, decimal, wordAllowed, wordForbidden, wordUnfinished, wordRefused, wordSteps, lineFeed, lines, verdictLines}
+use Rattle.model.specs.Verdict.{inputLimit, callLimit, notCalled, callOn, blank, decimal, wordSteps, lineFeed, lines, verdictLines}
 use Rattle.search.specs.Calls.{answerMeant}
 use Rattle.search.specs.declared.call.SearchAnswer.{SearchAnswer}
 use Rattle.verdict.specs.declared.calls.Total.{Total}
 use Rattle.verdict.specs.Totals.{totalOf}
-use Rattle.verdict.specs.Texts.{printed, linesLimit, Appends}
+use Rattle.verdict.specs.Texts.{printed, linesLimit, Prints, Appends}
 use Rattle.verdict.proofs.TextLaws.{appends-same, appends-printed}
 use Rattle.verdict.proofs.DigitLaws.{digits-length}
 
@@ -58,18 +58,17 @@ lines-length r h = go (r .answer)
     go (refuses q) = omega (arith, length-append (decimal q) lineFeed, digits-length 20 q)
 
 -- the lines of the calls on the input are the program's
-pub verdict-written : {x y : List ℕ} {n : ℕ} (input : List ℕ) (t : Total) → totalOf t ≡ callOn (take inputLimit input) callLimit notCalled → length (t .buffer) ≡ 128
-    → Appends x 0 (lines (totalOf t)) y n
-    → (y ≡ printed x (verdictLines input)) × (n ≡ min (length (verdictLines input)) (length x)) × (length (verdictLines input) ≤ linesLimit)
+pub verdict-printed : {x y : List ℕ} {n : ℕ} (input : List ℕ) (t : Total) → totalOf t ≡ callOn (take inputLimit input) callLimit notCalled → length (t .buffer) ≡ 128
+    → Appends x 0 (lines (totalOf t)) y n → Prints x (verdictLines input) y n
 unfolding verdictLines
-verdict-written {x} {y} {n} input t e l a =
+verdict-printed {x} {y} {n} input t e l a =
     let same : lines (totalOf t) ≡ verdictLines input = ap lines e in
-    let w = appends-printed (appends-same same a) in
-    (w .0, w .1, subst (λ (text : List ℕ). length text ≤ linesLimit) same (lines-length (totalOf t) l))
+    let (bytes, count) = appends-printed (appends-same same a) in
+    record { bytes = bytes; written = count; fits = subst (λ (text : List ℕ). length text ≤ linesLimit) same (lines-length (totalOf t) l) }
 
--- with room for all of it, the text stands whole at the front
-pub printed-whole : (x : List ℕ) {text y : List ℕ} {n : ℕ} → y ≡ printed x text → n ≡ min (length text) (length x) → length text ≤ length x → take n y ≡ text
+-- with room for all of them, the lines stand whole at the front
+pub printed-whole : {x text y : List ℕ} {n : ℕ} → Prints x text y n → linesLimit ≤ length x → take n y ≡ text
 unfolding printed
-printed-whole x {text} {y} {n} made count room =
-    let all : n ≡ length text = omega arith in
-    ap₂ take all made ∙ take-take (length text) (length x) (text ++ drop (length text) x) room ∙ take-append-seam text (drop (length text) x)
+printed-whole {x} {text} {y} {n} p room =
+    let all : n ≡ length text = omega (arith, p .written, p .fits) in
+    ap₂ take all (p .bytes) ∙ take-take (length text) (length x) (text ++ drop (length text) x) (omega (arith, p .fits)) ∙ take-append-seam text (drop (length text) x)

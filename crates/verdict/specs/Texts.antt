@@ -1,5 +1,5 @@
 -- Text in a lent buffer, as far as there is room.
-use Prim.Native.Nat.{ℕ, suc}
+use Prim.Native.Nat.{ℕ, suc, _≤_, min}
 use mathlib.Core.Path.{_≡_}
 use mathlib.Core.Bool.{cond}
 use mathlib.Core.List.{List, [], _∷_, _++_}
@@ -13,6 +13,12 @@ printed buffer text = take (length buffer) (text ++ drop (length text) buffer)
 -- room for the lines of any verdict
 abbrev pub linesLimit : ℕ
 linesLimit = 4096
+
+-- the lines are printed: the buffer as it is left, how many bytes were written, and that the limit is room for all
+pub record Prints (before lines after : List ℕ) (count : ℕ) : Type 0 where
+  pub bytes : after ≡ printed before lines
+  pub written : count ≡ min (length lines) (length before)
+  pub fits : length lines ≤ linesLimit
 
 -- a buffer, and the index where the next byte goes
 pub record Text : Type 0 where

@@ -9,9 +9,10 @@ use search::call::SearchAnswer;
 use search::call::search;
 use search::position::Position;
 
-// The most calls, and the steps that each may make.
+// The most calls.
 pub const CALL_LIMIT: u64 = 100;
 
+// The most steps of a call.
 pub const CALL_ALLOWANCE: u32 = 1_000_000;
 
 // What the calls came to: the last answer, the steps of all, and the position that the last one left.

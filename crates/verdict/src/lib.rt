@@ -1,12 +1,12 @@
 // The verdict: what the program prints for the bytes of its input.
 ghost use mathlib.Core.Path.{_≡_};
 ghost use mathlib.Core.List.{_++_};
-ghost use Prim.Native.Nat.{_≤_, min};
+ghost use Prim.Native.Nat.{_≤_};
 ghost use lib.ListN.{length, take};
 ghost use Rattle.base.specs.Lists.{for};
 ghost use Rattle.model.specs.Verdict.{inputLimit, blank, lineFeed, wordSteps, decimal, lines, verdictLines};
 ghost use Rattle.verdict.specs.Totals.{totalOf};
-ghost use Rattle.verdict.specs.Texts.{Appends, linesLimit, printed};
+ghost use Rattle.verdict.specs.Texts.{Appends, Prints};
 
 mod calls;
 mod text;
@@ -17,9 +17,10 @@ use crate::text::write_decimal;
 use crate::text::write_word;
 use search::call::SearchAnswer;
 
-// The most bytes that are taken as the record, and room for the lines of any verdict.
+// The most bytes that are taken as the record.
 pub const INPUT_LIMIT: usize = 1024;
 
+// Room for the lines of any verdict.
 pub const LINES_LIMIT: usize = 4096;
 
 // Writes a blank and a number.
@@ -95,7 +96,7 @@ fn record_of(input: &[u8]) -> &[u8]
 
 // Writes the verdict on a record at the front of a buffer, as far as there is room, and answers how many bytes it wrote.
 pub fn verdict(input: &[u8], out: &mut [u8]) -> usize
-    ensures { λ r. ⌜ (now (out .exit) ≡ printed (now (out .entry)) (verdictLines (now (input .entry)))) × (r ≡ min (length (verdictLines (now (input .entry)))) (length (now (out .entry)))) × (length (verdictLines (now (input .entry))) ≤ linesLimit) ⌝ }
+    ensures { λ r. ⌜ Prints (now (out .entry)) (verdictLines (now (input .entry))) (now (out .exit)) r ⌝ }
 {
     let bytes = record_of(input);
     let total = search_in_calls(bytes);

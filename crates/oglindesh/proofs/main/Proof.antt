@@ -1,8 +1,8 @@
 -- The lines fit their buffer, so what is printed is all of them.
-use Prim.Native.Nat.{ℕ, _≤_}
+use Prim.Native.Nat.{_≤_}
 use native.Mathlib.Omega.{arith}
-use mathlib.Core.Path.{_≡_, sym}
-use lib.ListN.{length, replicate}
+use mathlib.Core.Path.{sym}
+use lib.ListN.{length}
 use lib.Seq.{length-take-le}
 use Rattle.verdict.proofs.LineLaws.{printed-whole}
 use borrow.Author.Needs.{needs}
@@ -44,8 +44,7 @@ slice-aggregate-print-2 c =
 
 print-requires : tie.Need-print-requires
 print-requires c κs =
-    let said = c .before .before .before .verdict .ensures in
-    printed-whole (replicate 4096 0) (said .0) (said .1) (said .2)
+    printed-whole (c .before .before .before .verdict .ensures) (omega arith)
 
 returns : tie.Need-returns
 returns c = search needs

@@ -3,7 +3,7 @@ use Prim.Native.Nat.{ℕ}
 use mathlib.Core.Path.{ap, _∙_}
 use mathlib.Core.List.{List}
 use Rattle.model.specs.Verdict.{callLimit, notCalled, callOn}
-use Rattle.verdict.proofs.LineLaws.{verdict-written}
+use Rattle.verdict.proofs.LineLaws.{verdict-printed}
 use borrow.Author.Needs.{needs}
 use Rattle.verdict.proofs.verdict.Statement.{statement}
 use Rattle.verdict.proofs.verdict.Tie as tie
@@ -24,7 +24,7 @@ returns : tie.Need-returns
 returns c =
     let given = c .before .before .before .before .before .record-of in
     let made = c .before .before .before .before .search-in-calls in
-    verdict-written (c .before .before .before .before .before .before .before .before .args .input .now) (made .result) (made .ensures .0 ∙ ap (λ (l : List ℕ). callOn l callLimit notCalled) (given .ensures)) (made .ensures .2)
+    verdict-printed (c .before .before .before .before .before .before .before .before .args .input .now) (made .result) (made .ensures .0 ∙ ap (λ (l : List ℕ). callOn l callLimit notCalled) (given .ensures)) (made .ensures .2)
     (c .before .before .write-lines .ensures)
 
 pub verdict-spec : {M : Type 1} → statement M
