@@ -1,6 +1,6 @@
 //! The verdict program as it is built, on records through a pipe.
 
-use oglindesh::examples::{k1, note_appendix_a, note_appendix_b, scope};
+use oglindesh::examples::{k1, note_appendix_a, note_appendix_b, scope, Example};
 use oglindesh::generate;
 use oglindesh::random::Random;
 use oglindesh::reference::fast::search;
@@ -73,6 +73,15 @@ fn expected(input: &[u8]) -> String {
     format!("unfinished\nsteps {steps}\n")
 }
 
+/// The record of the example of this name.
+fn named(examples: Vec<Example>, name: &str) -> Vec<u8> {
+    let example = examples.into_iter().find(|example| example.name == name);
+    example
+        .expect("an example of this name")
+        .execution
+        .to_bytes()
+}
+
 /// The record, and zeros up to a length.
 fn padded(record: &[u8], length: usize) -> Vec<u8> {
     let mut input = record.to_vec();
@@ -87,9 +96,9 @@ fn k1_is_allowed() {
 
 #[test]
 fn scope_and_note() {
-    let quick = |name: &str| name != "table 15";
-    for example in scope().iter().chain(&note_appendix_a()).chain(&note_appendix_b()) {
-        if quick(example.name) {
+    for example in [scope(), note_appendix_a(), note_appendix_b()].concat() {
+        // Table 15 has a test of its own.
+        if example.name != "table 15" {
             let record = example.execution.to_bytes();
             assert_eq!(verdict(&record), expected(&record), "{}", example.name);
         }
@@ -97,24 +106,15 @@ fn scope_and_note() {
 }
 
 #[test]
-fn forbidden_with_its_steps() {
-    let examples = scope();
-    let k10 = examples.iter().find(|e| e.name == "K10").expect("K10");
-    assert_eq!(
-        verdict(&k10.execution.to_bytes()),
-        "forbidden\nsteps 390\n"
-    );
+fn k10_is_forbidden() {
+    assert_eq!(verdict(&named(scope(), "K10")), "forbidden\nsteps 390\n");
 }
 
 /// One hundred calls do not end the search of the note's table 15.
 #[test]
 fn table_15_is_unfinished() {
-    let examples = note_appendix_b();
-    let table = examples.iter().find(|e| e.name == "table 15").expect("it");
-    assert_eq!(
-        verdict(&table.execution.to_bytes()),
-        "unfinished\nsteps 100000000\n"
-    );
+    let record = named(note_appendix_b(), "table 15");
+    assert_eq!(verdict(&record), "unfinished\nsteps 100000000\n");
 }
 
 #[test]
