@@ -1,0 +1,5 @@
+-- The laws of this crate.
+pub mod TextLaws
+pub mod DigitLaws
+pub mod CallLaws
+pub mod LineLaws
