@@ -10,7 +10,7 @@ use lib.Dec.{eqb, ltb}
 use borrow.Author.Tests.{eq-eqb, ne-eqb, eqb-true, le-ltb, lt-ltb, not-true, not-false}
 use Rattle.base.specs.Below.{allBelow, anyBelow}
 use Rattle.base.specs.Bits.{bit}
-use Rattle.base.proofs.Bools.{agree, and-both}
+use Rattle.base.proofs.Bools.{agree, and-both, kept, left-out}
 use Rattle.base.proofs.Tests.{all-at, all-below, all-same, any-passes, any-below-same}
 use Rattle.sets.specs.Set.{holds}
 use Rattle.sets.proofs.Bit.{has-and, has-or}
@@ -170,21 +170,9 @@ module _ (rows places words : List ℕ) (lo hi x : ℕ) where
   unfolding fitsBy
   not-ready {r} e h = ap (λ (b : Bool). b && (not (refused rows places lo hi x) && sees rows lo hi words x)) (sym (not-true r h) ∙ e)
 
-  pub is-lost : {r : Bool} → r ≡ refused rows places lo hi x → r ≡ true → false ≡ fitsBy rows places lo hi words x
+  pub ready-passes : {r1 r2 : Bool} → r1 ≡ ready → not r1 ≡ false → r2 ≡ (not (refused rows places lo hi x) && sees rows lo hi words x) → r2 ≡ fitsBy rows places lo hi words x
   unfolding fitsBy
-  is-lost {r} e h = go ready (refused rows places lo hi x) (sym e ∙ h)
-    where
-      go : (a b : Bool) → b ≡ true → false ≡ (a && (not b && sees rows lo hi words x))
-      go true b q = ap (λ (u : Bool). not u && sees rows lo hi words x) (sym q)
-      go false b q = refl
-
-  pub by-last : {r1 r2 r3 : Bool} → r1 ≡ ready → not r1 ≡ false → r2 ≡ refused rows places lo hi x → r2 ≡ false → r3 ≡ sees rows lo hi words x
-      → r3 ≡ fitsBy rows places lo hi words x
-  unfolding fitsBy
-  by-last {r1} {r2} {r3} e1 k1 e2 k2 e3 = go ready (refused rows places lo hi x) (sym e1 ∙ not-false r1 k1) (sym e2 ∙ k2)
-    where
-      go : (a b : Bool) → a ≡ true → b ≡ false → r3 ≡ (a && (not b && sees rows lo hi words x))
-      go a b p q = rw (p, q) e3
+  ready-passes {r1} {r2} e1 k1 e2 = kept e1 (not-false r1 k1) e2
 
 -- a word written over
 pub written : (rows words : List ℕ) (x : ℕ) {at bits data' : ℕ} → at ≡ field rows 10 x → bits ≡ writtenBits rows x → data' ≡ field rows 9 x

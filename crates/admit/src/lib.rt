@@ -187,24 +187,27 @@ fn reads_right(rows: &[u64; 2304], words: &[u64; 128], stand: Set, x: usize) -> 
     agrees(own, visible, local, field_of(rows, x, READ_DATA), bits)
 }
 
-// Whether operation x, which does not stand, may follow: `stand` has the operations that stand, `places` their places, `words` what they wrote.
-pub fn fits(
-    rows: &[u64; 2304],
-    places: &[u8; 128],
-    words: &[u64; 128],
-    stand: Set,
-    x: usize,
-) -> bool
+// Rules 9, 10, 11 and 14 for operation x, whose predecessors stand.
+fn passes(rows: &[u64; 2304], places: &[u8; 128], words: &[u64; 128], stand: Set, x: usize) -> bool
+    requires { ⌜ x < 128 ⌝ }
+    ensures { λ r. ⌜ r ≡ (not (refused (now (rows .entry)) (now (places .entry)) (stand .lo) (stand .hi) x) && sees (now (rows .entry)) (stand .lo) (stand .hi) (now (words .entry)) x) ⌝ }
+{
+    if is_refused(rows, places, stand, x) {
+        return false;
+    }
+    reads_right(rows, words, stand, x)
+}
+
+// Whether operation x, which does not stand, may follow: `stand` has the operations that stand, `places` their places, `words` what they wrote. Most
+// operations wait for a predecessor, so that is asked first, and small enough to be asked in place.
+pub fn fits(rows: &[u64; 2304], places: &[u8; 128], words: &[u64; 128], stand: Set, x: usize) -> bool
     requires { ⌜ x < 128 ⌝ }
     ensures { λ r. ⌜ r ≡ fitsBy (now (rows .entry)) (now (places .entry)) (stand .lo) (stand .hi) (now (words .entry)) x ⌝ }
 {
     if !subset(set_of(rows, x, PREDS), stand) {
         return false;
     }
-    if is_refused(rows, places, stand, x) {
-        return false;
-    }
-    reads_right(rows, words, stand, x)
+    passes(rows, places, words, stand, x)
 }
 
 // Writes what operation x writes, and answers with the word that was there.
