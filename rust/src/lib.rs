@@ -3,6 +3,7 @@
 
 pub mod beside;
 pub mod examples;
+pub mod executions;
 pub mod generate;
 pub mod proved;
 pub mod random;
