@@ -2,7 +2,7 @@
 
 use std::time::Instant;
 
-use oglindesh::examples::{eight_processors, note_appendix_b};
+use oglindesh::examples::{eight_processors, named};
 use oglindesh::proved;
 use oglindesh::reference::notation::{ld, programs, st, X};
 use oglindesh::reference::record::Execution;
@@ -82,12 +82,6 @@ fn search_line(name: &str, execution: &Execution, allowance: u32) {
 /// Steps over which a search is timed.
 const STEPS_TIMED: u32 = 200_000;
 
-/// The note's table 15.
-fn table_15() -> Execution {
-    let named = note_appendix_b().into_iter().find(|e| e.name == "table 15");
-    named.expect("the note has a table 15").execution
-}
-
 /// Four processors that store to one byte and load it, so that each load overlaps every store; the last load forbids it all.
 fn overlapping_loads() -> Execution {
     let p = |first: u8| {
@@ -106,10 +100,10 @@ fn overlapping_loads() -> Execution {
 }
 
 fn main() {
-    let execution = eight_processors(14);
+    let execution = eight_processors();
     judge_line(&execution);
     chain_table_line(&execution);
-    search_line("table 15", &table_15(), 100_000);
+    search_line("table 15", &named("note", "table 15"), 100_000);
     search_line("eight processors", &execution, 126);
     search_line("overlapping loads", &overlapping_loads(), 100_000);
 }

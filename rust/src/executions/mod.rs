@@ -10,7 +10,7 @@ use std::fmt;
 use std::path::Path;
 
 pub use reader::read;
-pub use run::{run, Ran};
+pub use run::{run, run_all, Ran};
 
 /// One execution of a file, and what is claimed of it.
 #[derive(Clone, PartialEq, Eq, Debug)]

@@ -71,7 +71,8 @@ fn read_execution(head: &Entry, body: &[Entry]) -> Result<Written, Fault> {
             "programs" => draft.read_programs(&mut words)?,
             "pairs" => draft.read_pairs(&mut words)?,
             "order" => draft.order = Some(draft.read_order(&mut words)?),
-            "allowed" | "forbidden" | "unfinished" | "legal" | "breaks" | "operations" | "refused" => {
+            "allowed" | "forbidden" | "unfinished" | "legal" | "breaks" | "operations"
+            | "refused" => {
                 claims.push(draft.read_claim(&entry.key, &mut words)?);
             }
             other => {
@@ -579,23 +580,31 @@ impl Draft {
                 break;
             }
         }
-        match on.iter().position(Option::is_none) {
-            None => Ok(on.into_iter().flatten().collect()),
-            Some(line) => words.fault(format!(
+        let unnamed = |line: &usize| on[*line].is_none() && self.touched().any(|at| at == *line);
+        if let Some(line) = (0..count).find(unnamed) {
+            return words.fault(format!(
                 "the line of address {} has no attribute: write one for each line, or one for all",
                 line * LINE_SIZE
-            )),
+            ));
         }
+        let unused = vec![Attribute::WriteBack];
+        Ok(on
+            .into_iter()
+            .map(|line| line.unwrap_or(unused.clone()))
+            .collect())
+    }
+
+    /// The lines that accesses and initial bytes lie on.
+    fn touched(&self) -> impl Iterator<Item = usize> + '_ {
+        let accesses = self.instructions.iter().filter(|i| i.size > 0);
+        let accesses = accesses.map(Instruction::line);
+        let initial = self.initial.iter();
+        accesses.chain(initial.map(|&(at, _)| usize::from(at) / LINE_SIZE))
     }
 
     /// As many lines as the accesses and the initial bytes need.
     fn line_count(&self) -> usize {
-        let accesses = self.instructions.iter().map(Instruction::line);
-        let initial = self
-            .initial
-            .iter()
-            .map(|&(at, _)| usize::from(at) / LINE_SIZE);
-        accesses.chain(initial).max().unwrap_or(0) + 1
+        self.touched().max().unwrap_or(0) + 1
     }
 
     fn execution(&self) -> Execution {
@@ -654,12 +663,7 @@ fn read_alternatives(words: &mut Words) -> Result<Vec<Attribute>, Fault> {
 }
 
 fn attribute_of(word: &str) -> Option<Attribute> {
-    match word {
-        "WB" => Some(Attribute::WriteBack),
-        "UC" => Some(Attribute::Uncacheable),
-        "WC" => Some(Attribute::WriteCoalescing),
-        _ => None,
-    }
+    Attribute::ALL.into_iter().find(|a| a.name() == word)
 }
 
 /// `ld`, `ld2.acq` and so on; size 1 where none is written.

@@ -9,6 +9,8 @@ use crate::reference::record::{self, Execution};
 use crate::reference::rules::{self, JudgeAnswer};
 use crate::reference::search::{self, SearchAnswer, SearchReply};
 use crate::reference::{chains, fast};
+use std::sync::atomic::{AtomicUsize, Ordering};
+use std::sync::Mutex;
 
 /// What was run for a claim.
 #[derive(Clone, Copy, Default, PartialEq, Eq, Debug)]
@@ -19,6 +21,46 @@ pub struct Ran {
     pub steps: u64,
 }
 
+impl Ran {
+    fn and(self, other: Ran) -> Ran {
+        Ran {
+            executions: self.executions + other.executions,
+            steps: self.steps + other.steps,
+        }
+    }
+}
+
+/// Runs all claims of a file, on every processor of the machine; of what differs, the first line is told.
+pub fn run_all(file: &str, executions: &[Written]) -> Result<Ran, Wrong> {
+    let claims = |written| {
+        let with = move |claim| (written, claim);
+        let written: &Written = written;
+        written.claims.iter().map(with)
+    };
+    let claims: Vec<(&Written, &Claim)> = executions.iter().flat_map(claims).collect();
+    let next = AtomicUsize::new(0);
+    let results = Mutex::new(Vec::new());
+    let work = || {
+        while let Some((written, claim)) = claims.get(next.fetch_add(1, Ordering::Relaxed)) {
+            let result = run(file, written, claim);
+            let mut results = results.lock().expect("no thread ends in a panic");
+            results.push((claim.line, result));
+        }
+    };
+    std::thread::scope(|scope| {
+        for _ in 0..std::thread::available_parallelism().map_or(1, usize::from) {
+            scope.spawn(work);
+        }
+    });
+    let mut results = results.into_inner().expect("no thread ends in a panic");
+    results.sort_by_key(|(line, _)| *line);
+    let mut sum = Ran::default();
+    for (_, result) in results {
+        sum = sum.and(result?);
+    }
+    Ok(sum)
+}
+
 /// Runs one claim of an execution; what differs is told with the claim's line.
 pub fn run(file: &str, written: &Written, claim: &Claim) -> Result<Ran, Wrong> {
     let mut ran = Ran::default();
@@ -27,15 +69,13 @@ pub fn run(file: &str, written: &Written, claim: &Claim) -> Result<Ran, Wrong> {
         match run_one(&execution, &claim.says, &mut random) {
             Ok(steps) => ran.steps += steps,
             Err(what) => {
-                let attributes = execution.lines.iter().map(|line| line.attribute);
+                let lines = execution.lines.iter();
+                let attributes: Vec<_> = lines.map(|line| line.attribute.name()).collect();
+                let attributes = attributes.join(", ");
                 return Err(Wrong {
                     file: file.to_string(),
                     line: claim.line,
-                    what: format!(
-                        "{} on {:?}: {what}",
-                        written.name,
-                        attributes.collect::<Vec<_>>()
-                    ),
+                    what: format!("{} on {attributes}: {what}", written.name),
                 });
             }
         }
@@ -264,5 +304,5 @@ fn claimed<T: PartialEq + std::fmt::Debug>(what: &str, found: T, claim: T) -> Re
     if found == claim {
         return Ok(());
     }
-    Err(format!("the {what} is {found:?}, not {claim:?} as claimed"))
+    Err(format!("{what}: {found:?}, not {claim:?} as claimed"))
 }
