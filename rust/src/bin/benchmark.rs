@@ -3,7 +3,7 @@
 use std::time::Instant;
 
 use oglindesh::examples::{eight_processors, named};
-use oglindesh::proved;
+use oglindesh::proved::{self, Verdict};
 use oglindesh::reference::notation::{ld, programs, st, X};
 use oglindesh::reference::record::Execution;
 use oglindesh::reference::search::SearchAnswer;
@@ -99,7 +99,37 @@ fn overlapping_loads() -> Execution {
     programs(&[&p0, &p1, &p2, &p3]).build()
 }
 
+/// Consistent prefixes of the note's table 15 (executions/note.txt), all of which a search walks over.
+const TABLE_15_PREFIXES: u32 = 1_915_732_450;
+
+/// Walks table 15 to its end both ways, which takes minutes.
+fn whole_walk() {
+    let bytes = named("note", "table 15").to_bytes();
+    let mut buffer = [0; 128];
+    let reference = microseconds(1, || {
+        let reply = fast::search(&bytes, &mut buffer, 0, u32::MAX);
+        assert_eq!(reply.answer, SearchAnswer::Forbidden);
+        assert_eq!(reply.steps, TABLE_15_PREFIXES);
+    });
+    let proved = microseconds(1, || {
+        let reply = proved::search(&bytes, &mut buffer, 0, u32::MAX);
+        assert_eq!(reply.answer, Ok(Verdict::Forbidden));
+        assert_eq!(reply.steps, TABLE_15_PREFIXES);
+    });
+    println!(
+        "search, table 15 to its end, {TABLE_15_PREFIXES} steps: proved {:.0} s, plain Rust {:.0} s, ratio {:.2}",
+        proved / 1e6,
+        reference / 1e6,
+        proved / reference
+    );
+}
+
 fn main() {
+    match std::env::args().nth(1).as_deref() {
+        None => {}
+        Some("whole") => return whole_walk(),
+        Some(other) => panic!("`{other}` is not known: write nothing, or `whole`"),
+    }
     let execution = eight_processors();
     judge_line(&execution);
     chain_table_line(&execution);

@@ -280,15 +280,21 @@ fn operations(bytes: &[u8], count: usize) -> Result<(), String> {
 }
 
 fn chain_tables(execution: &Execution, bytes: &[u8]) -> Result<(), String> {
-    let size = execution.operation_count() * execution.operation_count();
-    let (mut table, mut other) = (vec![UNTOUCHED; size + 3], vec![UNTOUCHED; size + 3]);
+    let count = execution.operation_count();
+    let fresh = vec![UNTOUCHED; count * count + 3];
+    let (mut table, mut other) = (fresh.clone(), fresh);
     let answer = proved::chain_table(bytes, &mut table);
-    same(
-        "the chain table",
-        answer,
-        chains::chain_table(bytes, &mut other),
-    )?;
-    same("the chain table's marks", table, other)
+    let expected = chains::chain_table(bytes, &mut other);
+    same("the chain table", answer, expected)?;
+    let differs = |&at: &usize| table[at] != other[at];
+    match (0..table.len()).find(differs) {
+        None => Ok(()),
+        Some(at) => same(
+            &format!("the chain table's mark ({}, {})", at / count, at % count),
+            table[at],
+            other[at],
+        ),
+    }
 }
 
 /// The proved library, or one way of searching, against another.
