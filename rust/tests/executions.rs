@@ -260,6 +260,22 @@ fn wrong_claims_are_told() {
     }
 }
 
+/// A record counts to 255, and the questions ask for less.
+#[test]
+fn too_many_are_told() {
+    let many = |count: usize, claim: &str| {
+        let programs = vec!["mf"; count].join(", ");
+        said(&format!("execution e\nprograms {programs}\n{claim}"))
+    };
+    assert_eq!(many(40, "operations 40"), "nothing");
+    assert_eq!(many(41, "refused 5"), "nothing");
+    assert!(many(41, "allowed").starts_with("f:3: the execution fails question 5"));
+    assert!(many(256, "refused 5").starts_with("f:2: 256 are more than a record counts"));
+    let processors = vec!["mf"; 9].join("; ");
+    let text = format!("execution e\nprograms {processors}\nrefused 2");
+    assert_eq!(said(&text), "nothing");
+}
+
 /// Of several wrong claims the first is told, whichever thread ran it.
 #[test]
 fn the_first_wrong_claim_is_told() {

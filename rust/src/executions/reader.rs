@@ -100,8 +100,9 @@ fn read_execution(head: &Entry, body: &[Entry]) -> Result<Written, Fault> {
     Ok(written)
 }
 
-/// What questions 2 to 15 ask, for the message about an execution that fails one.
-const QUESTIONS: [&str; 14] = [
+/// What questions 1 to 15 ask, for the message about an execution that fails one.
+const QUESTIONS: [&str; 15] = [
+    "does the item end within the record?",
     "are there 1 to 8 processors?",
     "are there 1 to 8 lines, addresses 0 to 63?",
     "is the attribute WB, UC or WC?",
@@ -127,7 +128,7 @@ fn accept(written: &Written) -> Result<(), Fault> {
     match record::read(&written.execution.to_bytes()) {
         Ok(_) => Ok(()),
         Err(question) => {
-            let asks = QUESTIONS[usize::from(question) - 2];
+            let asks = QUESTIONS[usize::from(question) - 1];
             let what = format!(
                 "the execution fails question {question} ({asks}): write it so that it passes, or write `refused {question}`"
             );
@@ -228,6 +229,9 @@ fn number_of(word: &str) -> Option<u64> {
         None => word.parse().ok(),
     }
 }
+
+/// Every count of a record is one byte.
+const MOST_COUNTED: usize = 255;
 
 /// An execution being read.
 struct Draft {
@@ -340,6 +344,7 @@ impl Draft {
                 self.read_program(words)?;
             }
             self.processors += 1;
+            counted(words, self.instructions.len().max(self.processors))?;
             if !words.skip(";") {
                 return Ok(());
             }
@@ -407,6 +412,7 @@ impl Draft {
             let earlier = self.read_instruction_name(words)?;
             let later = self.read_instruction_name(words)?;
             self.pairs.push((earlier as u8, later as u8));
+            counted(words, self.pairs.len())?;
             if !words.skip(",") {
                 return Ok(());
             }
@@ -624,6 +630,16 @@ impl Draft {
             self.pairs.clone(),
         )
     }
+}
+
+/// A record can say so many.
+fn counted(words: &Words, count: usize) -> Result<(), Fault> {
+    if count <= MOST_COUNTED {
+        return Ok(());
+    }
+    words.fault(format!(
+        "{count} are more than a record counts: write at most {MOST_COUNTED}"
+    ))
 }
 
 /// What a claim takes.
