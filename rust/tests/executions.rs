@@ -74,7 +74,7 @@ fn said_after(programs: &str, line: &str) -> String {
 }
 
 /// Lines, and how the message about them begins.
-const WRONG_LINES: [(&str, &str); 33] = [
+const WRONG_LINES: [(&str, &str); 35] = [
     ("allowed", "f:1: `allowed` stands before any execution"),
     ("execution", "f:1: the execution has no name"),
     ("execution e", "f:1: the execution has no programs"),
@@ -134,6 +134,14 @@ const WRONG_LINES: [(&str, &str); 33] = [
     (
         "execution e\nprograms a: mf, a: mf",
         "f:2: there is an instruction `a` above",
+    ),
+    (
+        "execution e\nprograms 1: mf",
+        "f:2: `1` is a number: write a name before the `:`",
+    ),
+    (
+        "execution e\nprograms ld x sees 0\nallowed\ninitially x=0",
+        "f:4: write `initially` before what is claimed",
     ),
     (
         "execution e\nprograms mf\nprograms mf",

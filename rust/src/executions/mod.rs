@@ -1,6 +1,8 @@
 //! Executions written as the papers write them, in text files: what a file holds, how it is read, how its claims are run.
 //! docs/EXECUTIONS.md says how to write one.
 
+mod claims;
+mod draft;
 mod reader;
 mod run;
 mod words;

@@ -172,7 +172,7 @@ fn searched(execution: &Execution, bytes: &[u8], random: &mut Random) -> Result<
     let whole = both(execution, bytes, MOST_STEPS)?;
     if whole.reply.answer == SearchAnswer::Unfinished {
         return Err(format!(
-            "there are more than {MOST_STEPS} consistent prefixes: write `forbidden by sets` and their number"
+            "more than {MOST_STEPS} steps are too many for the brute force: if it is forbidden, write `forbidden by sets` and the number of its prefixes"
         ));
     }
     let parts = in_parts(execution, bytes, fast::search, u64::MAX, random)?;
