@@ -60,6 +60,7 @@ fn dependences() {
     assert_eq!(judged(&raw, &[2, 0, 1]), JudgeAnswer::Breaks(5));
     let war = programs(&[&[ld(X, 1), st(X, 1)]]);
     assert_eq!(judged(&war, &[1, 2, 0]), JudgeAnswer::Breaks(6));
+    assert_eq!(judged(&war, &[1, 0, 2]), JudgeAnswer::Breaks(6));
     let waw = programs(&[&[st(X, 1), st(X, 2)]]);
     assert_eq!(judged(&waw, &[2, 0, 1, 3]), JudgeAnswer::Breaks(7));
     let apart = programs(&[&[st(X, 1), st(X + 1, 2)]]);
@@ -69,6 +70,9 @@ fn dependences() {
     let flow = programs(&[&[ld(X, 0), ld(Y, 0)]]);
     assert_eq!(judged(&flow, &[1, 0]), JudgeAnswer::Legal);
     assert_eq!(judged(&flow.pair(0, 1), &[1, 0]), JudgeAnswer::Breaks(8));
+    let from_store = programs(&[&[st(X, 1), ld(Y, 0)]]).pair(0, 1);
+    assert_eq!(judged(&from_store, &[2, 0, 1]), JudgeAnswer::Breaks(8));
+    assert_eq!(judged(&from_store, &[0, 2, 1]), JudgeAnswer::Legal);
 }
 
 #[test]
