@@ -3,7 +3,7 @@
 
 use oglindesh::beside::chain_table;
 use oglindesh::examples::{eight_processors, k1, named};
-use oglindesh::executions::source;
+use oglindesh::executions::{source, SOURCES};
 use oglindesh::generate::{damaged, execution, failing, Shape};
 use oglindesh::random::Random;
 use oglindesh::reference::notation::{ld, mf, programs, st, X};
@@ -116,7 +116,7 @@ fn every_length_about_a_small_table() {
 fn the_papers_own_examples() {
     let mut random = Random::new(25);
     let mut tally = Tally::new();
-    let sources = ["scope", "computations", "note"].map(|file| source(file).expect("it is read"));
+    let sources = SOURCES.map(|file| source(file).expect("it is read"));
     let executions = sources.iter().flatten().map(|written| &written.execution);
     let accepted: Vec<_> = executions
         .filter(|execution| read(&execution.to_bytes()).is_ok())

@@ -40,6 +40,11 @@ fn the_note() {
     assert!(ran.steps > 1_000_000, "{ran:?}");
 }
 
+#[test]
+fn our_own() {
+    run_source("rules", &[]);
+}
+
 /// 126 operations are too many for a count over sets; their stores stand as they are numbered.
 #[test]
 fn as_many_as_126_operations() {

@@ -1,13 +1,10 @@
-//! Runs the claims of files of executions, those of the papers where none is named: each through the proved library and beside
+//! Runs the claims of files of executions, those of the folder `executions` where none is named: each through the proved library and beside
 //! it through the brute force. With `--record`, writes the record of one execution to standard output instead.
 
-use oglindesh::executions::{load, run_all, source, Written, Wrong};
+use oglindesh::executions::{load, run_all, source, Written, Wrong, SOURCES};
 use std::io::Write;
 use std::path::Path;
 use std::process::ExitCode;
-
-/// The files of the papers.
-const SOURCES: [&str; 3] = ["scope", "computations", "note"];
 
 const USAGE: &str = "write: executions [FILE ...], or: executions --record FILE NAME";
 
