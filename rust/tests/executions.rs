@@ -18,7 +18,9 @@ fn run_source(name: &str, expected: &[String]) -> Ran {
         assert!(found, "executions/{name}.txt has no execution {wanted}");
     }
     let file = format!("executions/{name}.txt");
-    run_all(&file, &executions).unwrap_or_else(|wrong| panic!("{wrong}"))
+    let ran = run_all(&file, &executions).unwrap_or_else(|wrong| panic!("{wrong}"));
+    assert_eq!(ran.uncounted, 0, "{file} is counted over sets too");
+    ran
 }
 
 #[test]
@@ -262,7 +264,10 @@ const WRONG_CLAIMS: [(&str, &str); 10] = [
     ),
     ("refused 8", "check: Ok(()), not Err(8)"),
     ("operations 4", "number of operations: Ok(3), not Ok(4)"),
-    ("forbidden by sets steps 3", "prefixes by sets: Counted"),
+    (
+        "forbidden by sets steps 3",
+        "prefixes by sets: Some(Counted",
+    ),
 ];
 
 #[test]
@@ -296,6 +301,17 @@ fn the_first_wrong_claim_is_told() {
     text += &"legal order 0 1 2\n".repeat(50);
     text += &"forbidden\n".repeat(50);
     assert!(said(&text).starts_with("f:54: "), "{}", said(&text));
+}
+
+/// Too many states to count are no fault of the execution.
+#[test]
+fn what_is_not_counted() {
+    let program = |at: usize| format!("st {0}=1, st {1}=1, st {2}=1", at, at + 1, at + 2);
+    let programs: Vec<String> = (0..4).map(|p| program(8 * p)).collect();
+    let text = format!("execution e\nprograms {}\nallowed", programs.join("; "));
+    let executions = read("f", &text).unwrap_or_else(|wrong| panic!("{wrong}"));
+    let ran = run_all("f", &executions).unwrap_or_else(|wrong| panic!("{wrong}"));
+    assert_eq!((ran.steps, ran.uncounted), (60, 1));
 }
 
 /// What may be written: sizes, labels, places, initial bytes, numbers of both kinds, comments, lines that go on.

@@ -42,6 +42,12 @@ fn report(file: &str, read: Result<Vec<Written>, Wrong>) -> Result<(), String> {
         ran.executions,
         ran.steps
     );
+    if ran.uncounted > 0 {
+        println!(
+            "{file}: {} records have too many states for a count over sets",
+            ran.uncounted
+        );
+    }
     Ok(())
 }
 

@@ -19,25 +19,33 @@ pub struct Ran {
     pub executions: usize,
     /// Steps that the proved search and the brute force both made.
     pub steps: u64,
+    /// Of the executions that were searched, those with too many states for a count over sets.
+    pub uncounted: usize,
 }
+
+/// One execution, not searched.
+const ONE: Ran = Ran {
+    executions: 1,
+    steps: 0,
+    uncounted: 0,
+};
 
 impl Ran {
     fn and(self, other: Ran) -> Ran {
         Ran {
             executions: self.executions + other.executions,
             steps: self.steps + other.steps,
+            uncounted: self.uncounted + other.uncounted,
         }
     }
 }
 
 /// Runs all claims of a file, on every processor of the machine; of what differs, the first line is told.
 pub fn run_all(file: &str, executions: &[Written]) -> Result<Ran, Wrong> {
-    let claims = |written| {
-        let with = move |claim| (written, claim);
-        let written: &Written = written;
-        written.claims.iter().map(with)
-    };
-    let claims: Vec<(&Written, &Claim)> = executions.iter().flat_map(claims).collect();
+    let mut claims: Vec<(&Written, &Claim)> = Vec::new();
+    for written in executions {
+        claims.extend(written.claims.iter().map(|claim| (written, claim)));
+    }
     let next = AtomicUsize::new(0);
     let results = Mutex::new(Vec::new());
     let work = || {
@@ -67,7 +75,7 @@ pub fn run(file: &str, written: &Written, claim: &Claim) -> Result<Ran, Wrong> {
     let mut random = Random::new(claim.line as u64);
     for execution in written.mixes(claim) {
         match run_one(&execution, &claim.says, &mut random) {
-            Ok(steps) => ran.steps += steps,
+            Ok(one) => ran = ran.and(one),
             Err(what) => {
                 let lines = execution.lines.iter();
                 let attributes: Vec<_> = lines.map(|line| line.attribute.name()).collect();
@@ -79,57 +87,48 @@ pub fn run(file: &str, written: &Written, claim: &Claim) -> Result<Ran, Wrong> {
                 });
             }
         }
-        ran.executions += 1;
     }
     Ok(ran)
 }
 
-/// Runs what is claimed of one execution, and gives the steps made.
-fn run_one(execution: &Execution, says: &Says, random: &mut Random) -> Result<u64, String> {
+/// Runs what is claimed of one execution.
+fn run_one(execution: &Execution, says: &Says, random: &mut Random) -> Result<Ran, String> {
     let bytes = execution.to_bytes();
     let by_reference = record::read(&bytes).map(|_| ());
     same("check", proved::check(&bytes), by_reference)?;
     if let Says::Refused(question) = says {
-        return refused(&bytes, *question).map(|()| 0);
+        return refused(&bytes, *question).map(|()| ONE);
     }
     chain_tables(execution, &bytes)?;
     match says {
-        Says::Refused(_) => Ok(0),
-        Says::Operations(count) => operations(&bytes, *count).map(|()| 0),
-        Says::Legal(order) => judged(&bytes, order, JudgeAnswer::Legal).map(|()| 0),
-        Says::Breaks(rule, order) => judged(&bytes, order, JudgeAnswer::Breaks(*rule)).map(|()| 0),
+        Says::Refused(_) => Ok(ONE),
+        Says::Operations(count) => operations(&bytes, *count).map(|()| ONE),
+        Says::Legal(order) => judged(&bytes, order, JudgeAnswer::Legal).map(|()| ONE),
+        Says::Breaks(rule, order) => {
+            judged(&bytes, order, JudgeAnswer::Breaks(*rule)).map(|()| ONE)
+        }
         Says::Allowed { order, steps } => {
             let found = searched(execution, &bytes, random)?;
             claimed("answer", found.reply.answer, SearchAnswer::Allowed)?;
-            claimed(
-                "steps",
-                found.reply.steps,
-                steps.unwrap_or(found.reply.steps),
-            )?;
-            let position = &found.buffer[..found.reply.length];
-            claimed("order", position, order.as_deref().unwrap_or(position))?;
-            judged(&bytes, position, JudgeAnswer::Legal)?;
-            Ok(found.reply.steps.into())
+            claimed_if("steps", &found.reply.steps, steps)?;
+            claimed_if("order", &found.position().to_vec(), order)?;
+            judged(&bytes, found.position(), JudgeAnswer::Legal)?;
+            Ok(found.ran())
         }
         Says::Forbidden { steps } => {
             let found = searched(execution, &bytes, random)?;
             claimed("answer", found.reply.answer, SearchAnswer::Forbidden)?;
-            claimed(
-                "steps",
-                found.reply.steps,
-                steps.unwrap_or(found.reply.steps),
-            )?;
-            Ok(found.reply.steps.into())
+            claimed_if("steps", &found.reply.steps, steps)?;
+            Ok(found.ran())
         }
         Says::ForbiddenBySets { prefixes } => {
-            let expected = Counted {
-                prefixes: (*prefixes).into(),
-                full: 0,
-            };
-            claimed("prefixes by sets", counted(execution)?, expected)?;
+            let counted = counting::count(execution, MOST_STATES);
+            let prefixes = u128::from(*prefixes);
+            let expected = Counted { prefixes, full: 0 };
+            claimed("prefixes by sets", counted, Some(expected))?;
             let parts = in_parts(execution, &bytes, search::search, FIRST_PREFIXES, random)?;
             claimed("answer", parts.reply.answer, SearchAnswer::Unfinished)?;
-            Ok(parts.steps)
+            Ok(parts.ran())
         }
         Says::Unfinished {
             position,
@@ -138,8 +137,8 @@ fn run_one(execution: &Execution, says: &Says, random: &mut Random) -> Result<u6
             let found = both(execution, &bytes, *allowance)?;
             claimed("answer", found.reply.answer, SearchAnswer::Unfinished)?;
             claimed("steps", found.reply.steps, *allowance)?;
-            claimed("position", &found.buffer[..found.reply.length], position)?;
-            Ok(found.steps)
+            claimed("position", found.position(), position)?;
+            Ok(found.ran())
         }
     }
 }
@@ -151,7 +150,7 @@ const MOST_STEPS: u32 = 2_000_000;
 const FIRST_PREFIXES: u64 = 1_000_000;
 
 /// Most states of one length that are counted.
-const MOST_STATES: usize = 1_000_000;
+const MOST_STATES: usize = 20_000;
 
 /// A byte that no operation number is, to see what a call writes.
 const UNTOUCHED: u8 = 0xee;
@@ -165,11 +164,26 @@ struct Found {
     buffer: Vec<u8>,
     /// Over all calls.
     steps: u64,
+    uncounted: usize,
+}
+
+impl Found {
+    fn ran(&self) -> Ran {
+        Ran {
+            steps: self.steps,
+            uncounted: self.uncounted,
+            ..ONE
+        }
+    }
+
+    fn position(&self) -> &[u8] {
+        &self.buffer[..self.reply.length]
+    }
 }
 
 /// Searches in one go beside the brute force, in parts beside the incremental search, and by counting over sets.
 fn searched(execution: &Execution, bytes: &[u8], random: &mut Random) -> Result<Found, String> {
-    let whole = both(execution, bytes, MOST_STEPS)?;
+    let mut whole = both(execution, bytes, MOST_STEPS)?;
     if whole.reply.answer == SearchAnswer::Unfinished {
         return Err(format!(
             "more than {MOST_STEPS} steps are too many for the brute force: if it is forbidden, write `forbidden by sets` and the number of its prefixes"
@@ -182,23 +196,26 @@ fn searched(execution: &Execution, bytes: &[u8], random: &mut Random) -> Result<
         whole.reply.answer,
     )?;
     same("steps in parts", parts.steps, whole.steps)?;
-    let counted = counted(execution)?;
-    match whole.reply.answer {
-        SearchAnswer::Allowed => {
-            same("order in parts", &parts.buffer, &whole.buffer)?;
-            same("allowed by sets", counted.full > 0, true)?;
-        }
-        _ => {
-            same("forbidden by sets", counted.full, 0)?;
-            same("prefixes by sets", counted.prefixes, whole.steps.into())?;
-        }
+    if whole.reply.answer == SearchAnswer::Allowed {
+        same("order in parts", &parts.buffer, &whole.buffer)?;
+    }
+    match counting::count(execution, MOST_STATES) {
+        Some(counted) => by_sets(counted, &whole)?,
+        None => whole.uncounted = 1,
     }
     Ok(whole)
 }
 
-fn counted(execution: &Execution) -> Result<Counted, String> {
-    let too_many = format!("more than {MOST_STATES} states of one length: too many to count");
-    counting::count(execution, MOST_STATES).ok_or(too_many)
+/// Some consistent prefix is full where the search finds an order; where it finds none, it walked over all of them.
+fn by_sets(counted: Counted, whole: &Found) -> Result<(), String> {
+    match whole.reply.answer {
+        SearchAnswer::Allowed => same("allowed by sets", counted.full > 0, true),
+        _ => {
+            let prefixes = u128::from(whole.steps);
+            let expected = Counted { prefixes, full: 0 };
+            same("prefixes by sets", counted, expected)
+        }
+    }
 }
 
 /// A fresh buffer, longer than it need be.
@@ -217,6 +234,7 @@ fn both(execution: &Execution, bytes: &[u8], allowance: u32) -> Result<Found, St
         reply,
         buffer,
         steps: reply.steps.into(),
+        uncounted: 0,
     })
 }
 
@@ -244,6 +262,7 @@ fn in_parts(
                 reply,
                 buffer,
                 steps,
+                uncounted: 0,
             });
         }
     }
@@ -311,4 +330,16 @@ fn claimed<T: PartialEq + std::fmt::Debug>(what: &str, found: T, claim: T) -> Re
         return Ok(());
     }
     Err(format!("{what}: {found:?}, not {claim:?} as claimed"))
+}
+
+/// What both found against the file, where it says something.
+fn claimed_if<T: PartialEq + std::fmt::Debug>(
+    what: &str,
+    found: &T,
+    claim: &Option<T>,
+) -> Result<(), String> {
+    match claim {
+        None => Ok(()),
+        Some(claim) => claimed(what, found, claim),
+    }
 }
