@@ -289,7 +289,7 @@ fn too_many_are_told() {
     assert_eq!(many(41, "refused 5"), "nothing");
     assert!(many(41, "allowed").starts_with("f:3: the execution fails question 5"));
     assert!(many(256, "refused 5").starts_with("f:2: 256 are more than a record counts"));
-    let processors = vec!["mf"; 9].join("; ");
+    let processors = ["mf"; 9].join("; ");
     let text = format!("execution e\nprograms {processors}\nrefused 2");
     assert_eq!(said(&text), "nothing");
 }
