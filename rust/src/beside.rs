@@ -6,14 +6,19 @@ use crate::reference::rules::{self, JudgeAnswer};
 use crate::reference::search::{SearchAnswer, SearchReply};
 use crate::reference::{chains, fast};
 
-/// What both judges say of an order.
-pub fn judge(bytes: &[u8], order: &[u8]) -> JudgeAnswer {
-    let expected = rules::judge(bytes, order);
-    let answer = match proved::judge(bytes, order) {
+/// What the proved judge says, in the reference's words.
+pub fn proved_judge(bytes: &[u8], order: &[u8]) -> JudgeAnswer {
+    match proved::judge(bytes, order) {
         Ok(Judgement::Legal) => JudgeAnswer::Legal,
         Ok(Judgement::Breaks(rule)) => JudgeAnswer::Breaks(rule),
         Err(question) => JudgeAnswer::Refused(question),
-    };
+    }
+}
+
+/// What both judges say of an order.
+pub fn judge(bytes: &[u8], order: &[u8]) -> JudgeAnswer {
+    let expected = rules::judge(bytes, order);
+    let answer = proved_judge(bytes, order);
     assert_eq!(answer, expected, "record {bytes:?}, order {order:?}");
     answer
 }
@@ -28,8 +33,8 @@ pub fn chain_table(bytes: &[u8], table: &mut [u8]) -> Result<(), u8> {
     answer
 }
 
-/// What the proved search says.
-fn proved_search(bytes: &[u8], buffer: &mut [u8], saved: usize, allowance: u32) -> SearchReply {
+/// What the proved search says, in the reference's words.
+pub fn proved_search(bytes: &[u8], buffer: &mut [u8], saved: usize, allowance: u32) -> SearchReply {
     let reply = proved::search(bytes, buffer, saved, allowance);
     SearchReply {
         answer: match reply.answer {

@@ -1,4 +1,50 @@
 //! The proved library's calls, wrapped for safe Rust. The numbers that they return are those of `crates/capi`.
+//!
+//! A record is bytes, laid out as docs/FORMAT.md says; `executions::read` makes one from the papers' notation. A call that is
+//! refused gives `Err` with the number of the first question answered 'no', and leaves lent bytes as they came. Nothing is kept
+//! between calls.
+//!
+//! | call | `Ok` says |
+//! |---|---|
+//! | [`check`] | the record passes questions 1 to 15 |
+//! | [`judge`] | whether an order is legal, else the lowest rule that it breaks |
+//! | [`search`] | allowed, with the first legal order; forbidden; or unfinished, with the position to go on from |
+//! | [`chain_table`] | the table is written: from which operation links lead to which |
+//!
+//! K1 through all of them:
+//!
+//! ```
+//! use oglindesh::executions;
+//! use oglindesh::proved::{chain_table, check, judge, search, Judgement, Verdict};
+//!
+//! let text = "execution K1\n  programs st x=1, ld x sees 1\n  allowed";
+//! let written = executions::read("K1", text).expect("it is well written");
+//! let record = written[0].execution.to_bytes();
+//! assert_eq!(check(&record), Ok(()));
+//!
+//! // Its operations are 0 (LV), 1 (RV) and 2 (R). The load may read its own store before the RV, but no RV stands before its LV.
+//! assert_eq!(judge(&record, &[0, 2, 1]), Ok(Judgement::Legal));
+//! assert_eq!(judge(&record, &[1, 0, 2]), Ok(Judgement::Breaks(1)));
+//! assert_eq!(judge(&record, &[0, 2]), Err(16));
+//!
+//! // A buffer of 128 bytes serves every record. Two steps at a time, the search goes on from where it was.
+//! let mut buffer = [0; 128];
+//! let (mut length, mut steps) = (0, 0);
+//! let verdict = loop {
+//!     let reply = search(&record, &mut buffer, length, 2);
+//!     (length, steps) = (reply.length, steps + reply.steps);
+//!     match reply.answer.expect("the record passes") {
+//!         Verdict::Unfinished => continue,
+//!         verdict => break verdict,
+//!     }
+//! };
+//! assert_eq!((verdict, &buffer[..length], steps), (Verdict::Allowed, &[0, 1, 2][..], 3));
+//!
+//! // LV stands before RV by rule 1, and before R by rule 5.
+//! let mut table = [0; 3 * 3];
+//! assert_eq!(chain_table(&record, &mut table), Ok(()));
+//! assert_eq!(table, [0, 1, 1, 0, 0, 0, 0, 0, 0]);
+//! ```
 
 mod exported {
     extern "C" {
@@ -151,7 +197,9 @@ pub enum Verdict {
 pub struct SearchReply {
     /// Where a question refuses the call, the number of the first that it fails.
     pub answer: Result<Verdict, u8>,
+    /// Consistent prefixes that this call walked over, at most its allowance.
     pub steps: u32,
+    /// Of the position that is left.
     pub length: usize,
 }
 

@@ -2,10 +2,8 @@
 //! tables of any length.
 
 use oglindesh::beside::chain_table;
-use oglindesh::examples::{
-    computations, eight_processors, k1, k1_uncacheable, lone_load, note_appendix_a,
-    note_appendix_b, scope,
-};
+use oglindesh::examples::{eight_processors, k1, named};
+use oglindesh::executions::{source, SOURCES};
 use oglindesh::generate::{damaged, execution, failing, Shape};
 use oglindesh::random::Random;
 use oglindesh::reference::notation::{ld, mf, programs, st, X};
@@ -118,16 +116,12 @@ fn every_length_about_a_small_table() {
 fn the_papers_own_examples() {
     let mut random = Random::new(25);
     let mut tally = Tally::new();
-    let searched = [
-        scope(),
-        computations(),
-        note_appendix_a(),
-        note_appendix_b(),
-    ];
-    let searched = searched.into_iter().flatten().map(|e| e.execution);
-    let others = [k1(), k1_uncacheable(), lone_load(0)];
-    let executions: Vec<_> = searched.chain(others).collect();
-    for execution in &executions {
+    let sources = SOURCES.map(|file| source(file).expect("it is read"));
+    let executions = sources.iter().flatten().map(|written| &written.execution);
+    let accepted: Vec<_> = executions
+        .filter(|execution| read(&execution.to_bytes()).is_ok())
+        .collect();
+    for execution in &accepted {
         let bytes = execution.to_bytes();
         let size = size(&bytes);
         let table = tally.ask(&mut random, &bytes, size + 5);
@@ -137,10 +131,8 @@ fn the_papers_own_examples() {
         }
         tally.ask(&mut random, &bytes, size - 1);
     }
-    assert_eq!(tally.0[0], executions.len());
-    assert_eq!(tally.0[22], executions.len());
-    tally.ask(&mut random, &lone_load(4).to_bytes(), 1);
-    assert_eq!(tally.0[8], 1);
+    assert_eq!(tally.0[0], accepted.len());
+    assert_eq!(tally.0[22], accepted.len());
 }
 
 /// ld, st, mf: no link but a chain leads from the load to the store's RV.
@@ -169,7 +161,7 @@ fn as_many_as_126_operations() {
         .collect();
     let mut random = Random::new(26);
     let mut tally = Tally::new();
-    let bytes = eight_processors(14).to_bytes();
+    let bytes = eight_processors().to_bytes();
     let size = size(&bytes);
     assert_eq!(size, expected.len());
     for length in [size, size + 1, 128 * 128] {
@@ -180,6 +172,7 @@ fn as_many_as_126_operations() {
         tally.ask(&mut random, &bytes, length);
     }
     assert_eq!((tally.0[0], tally.0[22]), (3, 3));
-    tally.ask(&mut random, &eight_processors(15).to_bytes(), 128 * 128);
+    let one_more = named("scope", "eight processors and a store more");
+    tally.ask(&mut random, &one_more.to_bytes(), 128 * 128);
     assert_eq!(tally.0[11], 1);
 }

@@ -4,7 +4,6 @@ use oglindesh::generate::{damaged, execution, failing, Shape};
 use oglindesh::proved::check;
 use oglindesh::random::Random;
 use oglindesh::reference::record::read;
-use oglindesh::{examples, reference};
 
 /// How many records each question refused; place 0 counts those that were accepted.
 struct Tally([usize; 16]);
@@ -99,13 +98,7 @@ fn readers_agree_on_random_bytes() {
 }
 
 #[test]
-fn the_papers_own_records() {
-    assert_eq!(check(&examples::lone_load(0).to_bytes()), Ok(()));
-    assert_eq!(check(&examples::lone_load(4).to_bytes()), Err(8));
-    let many = examples::eight_processors(14);
-    assert_eq!(many.operation_count(), 126);
-    assert_eq!(check(&many.to_bytes()), Ok(()));
-    assert_eq!(check(&examples::eight_processors(15).to_bytes()), Err(11));
-    assert_eq!(reference::record::read(&[]), Err(1));
+fn no_bytes() {
+    assert_eq!(read(&[]), Err(1));
     assert_eq!(check(&[]), Err(1));
 }

@@ -5,6 +5,7 @@ use oglindesh::generate::{
 };
 use oglindesh::random::Random;
 use oglindesh::reference::chains::chain_table;
+use oglindesh::reference::counting::count;
 use oglindesh::reference::fast;
 use oglindesh::reference::record::{read, Execution};
 use oglindesh::reference::rules::{judge, links, lowest_broken, JudgeAnswer};
@@ -280,6 +281,40 @@ fn every_question_is_reached() {
         reached.extend(read(&failing(&mut random, question)).err());
     }
     assert!(reached.iter().copied().eq(1..=22), "{reached:?}");
+}
+
+/// Every list of a tiny record, tested on its own, and the walk over small records that are forbidden.
+#[test]
+fn counting_over_sets_is_the_walk() {
+    let mut random = Random::new(12);
+    for _ in 0..120 {
+        let e = execution(&mut random, &Shape::TINY);
+        let mut all = Vec::new();
+        all_lists(e.operation_count() as u8, &mut Vec::new(), &mut all);
+        all.retain(|list| lowest_broken(&e, list).is_none());
+        let full = all.iter().filter(|list| list.len() == e.operation_count());
+        let counted = count(&e, usize::MAX).expect("no bound");
+        assert_eq!(counted.prefixes, all.len() as u128 - 1, "{e:?}");
+        assert_eq!(counted.full, full.count() as u128, "{e:?}");
+    }
+    let mut forbidden = 0;
+    for _ in 0..1500 {
+        let e = execution(&mut random, &Shape::SMALL);
+        let reply = fast::search(&e.to_bytes(), &mut [0; 128], 0, 5000);
+        if reply.answer == SearchAnswer::Unfinished {
+            continue;
+        }
+        let Some(counted) = count(&e, 3000) else {
+            continue;
+        };
+        let allowed = reply.answer == SearchAnswer::Allowed;
+        assert_eq!(counted.full > 0, allowed, "{e:?}");
+        if !allowed {
+            forbidden += 1;
+            assert_eq!(counted.prefixes, u128::from(reply.steps), "{e:?}");
+        }
+    }
+    assert!(forbidden > 300, "{forbidden} forbidden ones counted");
 }
 
 /// The closure by repeated squaring of the marks, to hold the depth-first walk to.

@@ -60,6 +60,7 @@ fn dependences() {
     assert_eq!(judged(&raw, &[2, 0, 1]), JudgeAnswer::Breaks(5));
     let war = programs(&[&[ld(X, 1), st(X, 1)]]);
     assert_eq!(judged(&war, &[1, 2, 0]), JudgeAnswer::Breaks(6));
+    assert_eq!(judged(&war, &[1, 0, 2]), JudgeAnswer::Breaks(6));
     let waw = programs(&[&[st(X, 1), st(X, 2)]]);
     assert_eq!(judged(&waw, &[2, 0, 1, 3]), JudgeAnswer::Breaks(7));
     let apart = programs(&[&[st(X, 1), st(X + 1, 2)]]);
@@ -69,6 +70,9 @@ fn dependences() {
     let flow = programs(&[&[ld(X, 0), ld(Y, 0)]]);
     assert_eq!(judged(&flow, &[1, 0]), JudgeAnswer::Legal);
     assert_eq!(judged(&flow.pair(0, 1), &[1, 0]), JudgeAnswer::Breaks(8));
+    let from_store = programs(&[&[st(X, 1), ld(Y, 0)]]).pair(0, 1);
+    assert_eq!(judged(&from_store, &[2, 0, 1]), JudgeAnswer::Breaks(8));
+    assert_eq!(judged(&from_store, &[0, 2, 1]), JudgeAnswer::Legal);
 }
 
 #[test]
@@ -168,4 +172,36 @@ fn uncacheable() {
     assert_eq!(broken_by(&bypass, &[0, 2]), Some(14));
     let disjoint = programs(&[&[st(X, 1), ld(X + 1, 0)]]).all_lines(Attribute::Uncacheable);
     assert_eq!(judged(&disjoint, &[0, 2, 1]), JudgeAnswer::Legal);
+}
+
+/// Document 01's table of the program-order rules, earlier kind by row.
+const PROGRAM_ORDER: [[&str; 5]; 5] = [
+    ["", "", "", "L", "F"],
+    ["A", "A", "A", "AL", "AF"],
+    ["", "", "", "L", "F"],
+    ["", "", "", "L", "F"],
+    ["F", "F", "F", "F", "F"],
+];
+
+/// Two instructions of each pair of kinds, the later one's operation put first: the lowest rule
+/// broken is that of the first letter, if there is one.
+#[test]
+fn program_order_table() {
+    let instruction = |kind, address| match kind {
+        Kind::Fence => mf(),
+        _ => notation::access(kind, address, &[0]),
+    };
+    for earlier in Kind::ALL {
+        for later in Kind::ALL {
+            let draft = programs(&[&[instruction(earlier, X), instruction(later, Y)]]);
+            let first_of_later = draft.clone().build().operations_of(1).start as u8;
+            let letters = PROGRAM_ORDER[earlier as usize][later as usize];
+            let expected = letters.chars().next().map(|letter| match letter {
+                'A' => 2,
+                'L' => 3,
+                _ => 4,
+            });
+            assert_eq!(broken_by(&draft, &[first_of_later]), expected);
+        }
+    }
 }

@@ -1,6 +1,7 @@
 //! The verdict program as it is built, on records through a pipe.
 
-use oglindesh::examples::{k1, note_appendix_a, note_appendix_b, scope, Example};
+use oglindesh::examples::{k1, named};
+use oglindesh::executions::{source, SOURCES};
 use oglindesh::generate;
 use oglindesh::random::Random;
 use oglindesh::reference::fast::search;
@@ -73,15 +74,6 @@ fn expected(input: &[u8]) -> String {
     format!("unfinished\nsteps {steps}\n")
 }
 
-/// The record of the example of this name.
-fn named(examples: Vec<Example>, name: &str) -> Vec<u8> {
-    let example = examples.into_iter().find(|example| example.name == name);
-    example
-        .expect("an example of this name")
-        .execution
-        .to_bytes()
-}
-
 /// The record, and zeros up to a length.
 fn padded(record: &[u8], length: usize) -> Vec<u8> {
     let mut input = record.to_vec();
@@ -95,25 +87,27 @@ fn k1_is_allowed() {
 }
 
 #[test]
-fn scope_and_note() {
-    for example in [scope(), note_appendix_a(), note_appendix_b()].concat() {
-        // Table 15 has a test of its own.
-        if example.name != "table 15" {
-            let record = example.execution.to_bytes();
-            assert_eq!(verdict(&record), expected(&record), "{}", example.name);
-        }
+fn all_sources() {
+    let sources = SOURCES.map(|file| source(file).expect("it is read"));
+    // Table 15 has a test of its own.
+    for written in sources.iter().flatten().filter(|e| e.name != "table 15") {
+        let record = written.execution.to_bytes();
+        assert_eq!(verdict(&record), expected(&record), "{}", written.name);
     }
 }
 
 #[test]
 fn k10_is_forbidden() {
-    assert_eq!(verdict(&named(scope(), "K10")), "forbidden\nsteps 390\n");
+    assert_eq!(
+        verdict(&named("scope", "K10").to_bytes()),
+        "forbidden\nsteps 390\n"
+    );
 }
 
 /// One hundred calls do not end the search of the note's table 15.
 #[test]
 fn table_15_is_unfinished() {
-    let record = named(note_appendix_b(), "table 15");
+    let record = named("note", "table 15").to_bytes();
     assert_eq!(verdict(&record), "unfinished\nsteps 100000000\n");
 }
 

@@ -2,8 +2,8 @@
 
 use std::time::Instant;
 
-use oglindesh::examples::{eight_processors, note_appendix_b};
-use oglindesh::proved;
+use oglindesh::examples::{eight_processors, named};
+use oglindesh::proved::{self, Verdict};
 use oglindesh::reference::notation::{ld, programs, st, X};
 use oglindesh::reference::record::Execution;
 use oglindesh::reference::search::SearchAnswer;
@@ -82,12 +82,6 @@ fn search_line(name: &str, execution: &Execution, allowance: u32) {
 /// Steps over which a search is timed.
 const STEPS_TIMED: u32 = 200_000;
 
-/// The note's table 15.
-fn table_15() -> Execution {
-    let named = note_appendix_b().into_iter().find(|e| e.name == "table 15");
-    named.expect("the note has a table 15").execution
-}
-
 /// Four processors that store to one byte and load it, so that each load overlaps every store; the last load forbids it all.
 fn overlapping_loads() -> Execution {
     let p = |first: u8| {
@@ -105,11 +99,41 @@ fn overlapping_loads() -> Execution {
     programs(&[&p0, &p1, &p2, &p3]).build()
 }
 
+/// Consistent prefixes of the note's table 15 (executions/note.txt), all of which a search walks over.
+const TABLE_15_PREFIXES: u32 = 1_915_732_450;
+
+/// Walks table 15 to its end both ways, which takes minutes.
+fn whole_walk() {
+    let bytes = named("note", "table 15").to_bytes();
+    let mut buffer = [0; 128];
+    let reference = microseconds(1, || {
+        let reply = fast::search(&bytes, &mut buffer, 0, u32::MAX);
+        assert_eq!(reply.answer, SearchAnswer::Forbidden);
+        assert_eq!(reply.steps, TABLE_15_PREFIXES);
+    });
+    let proved = microseconds(1, || {
+        let reply = proved::search(&bytes, &mut buffer, 0, u32::MAX);
+        assert_eq!(reply.answer, Ok(Verdict::Forbidden));
+        assert_eq!(reply.steps, TABLE_15_PREFIXES);
+    });
+    println!(
+        "search, table 15 to its end, {TABLE_15_PREFIXES} steps: proved {:.0} s, plain Rust {:.0} s, ratio {:.2}",
+        proved / 1e6,
+        reference / 1e6,
+        proved / reference
+    );
+}
+
 fn main() {
-    let execution = eight_processors(14);
+    match std::env::args().nth(1).as_deref() {
+        None => {}
+        Some("whole") => return whole_walk(),
+        Some(other) => panic!("`{other}` is not known: write nothing, or `whole`"),
+    }
+    let execution = eight_processors();
     judge_line(&execution);
     chain_table_line(&execution);
-    search_line("table 15", &table_15(), 100_000);
+    search_line("table 15", &named("note", "table 15"), 100_000);
     search_line("eight processors", &execution, 126);
     search_line("overlapping loads", &overlapping_loads(), 100_000);
 }

@@ -1,6 +1,7 @@
-//! The reference implementation: record, rules, judge, brute-force search, incremental search and chain table.
+//! The reference implementation: record, rules, judge, brute-force search, incremental search, counting and chain table.
 
 pub mod chains;
+pub mod counting;
 pub mod fast;
 pub mod notation;
 pub mod record;

@@ -73,6 +73,15 @@ impl Attribute {
         Attribute::WriteCoalescing,
     ];
 
+    /// The papers' name.
+    pub fn name(self) -> &'static str {
+        match self {
+            Attribute::WriteBack => "WB",
+            Attribute::Uncacheable => "UC",
+            Attribute::WriteCoalescing => "WC",
+        }
+    }
+
     /// The attribute of a record's attribute byte (question 4).
     pub fn of(byte: u8) -> Option<Attribute> {
         Attribute::ALL.get(usize::from(byte)).copied()

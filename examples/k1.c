@@ -1,0 +1,76 @@
+/* K1 (one processor: st x=1, ld x sees 1) through every call. k1.txt is what it prints. */
+#include "oglindesh.h"
+#include <stdio.h>
+
+/* K1's record, as docs/FORMAT.md lays it out. Its operations are 0 (LV), 1 (RV) and 2 (R). */
+static const uint8_t k1[] = {
+    1,                                /* one processor */
+    1,                                /* one line: */
+    0, 0, 0, 0, 0, 0, 0, 0, 0,        /* WB, eight initial bytes */
+    2,                                /* two instructions: */
+    2, 0, 1, 1, 0, 0, 0, 0, 0, 0, 0,  /* st, address 0, size 1, writes 1 */
+    0, 0, 1, 1, 0, 0, 0, 0, 0, 0, 0,  /* ld, address 0, size 1, sees 1 */
+    0,                                /* no pair */
+};
+
+static void say_judgement(const uint8_t *order, size_t entries)
+{
+    uint32_t number = oglindesh_judge(k1, sizeof k1, order, entries);
+    if (number > OGLINDESH_REFUSED)
+        printf("question %u refuses the order\n", (unsigned)(number - OGLINDESH_REFUSED));
+    else if (number > 0)
+        printf("the order breaks rule %u\n", (unsigned)number);
+    else
+        printf("the order is legal\n");
+}
+
+/* Searches in calls of two steps each, and prints where each of them comes to. */
+static void search_in_parts(void)
+{
+    uint8_t buffer[OGLINDESH_MAX_OPERATIONS];
+    struct oglindesh_search_reply reply = {OGLINDESH_UNFINISHED, 0, 0};
+    uint64_t steps = 0;
+
+    while (reply.answer == OGLINDESH_UNFINISHED) {
+        reply = oglindesh_search(k1, sizeof k1, buffer, sizeof buffer, reply.length, 2);
+        steps += reply.steps;
+        if (reply.answer > OGLINDESH_REFUSED) {
+            printf("question %u refuses the search\n", (unsigned)(reply.answer - OGLINDESH_REFUSED));
+            return;
+        }
+        if (reply.answer == OGLINDESH_FORBIDDEN) {
+            printf("forbidden");
+        } else {
+            printf(reply.answer == OGLINDESH_ALLOWED ? "allowed" : "unfinished at");
+            for (size_t i = 0; i < reply.length; i++)
+                printf(" %u", (unsigned)buffer[i]);
+        }
+        printf(", %llu steps so far\n", (unsigned long long)steps);
+    }
+}
+
+static void print_chains(void)
+{
+    uint8_t table[3 * 3];
+
+    if (oglindesh_chains(k1, sizeof k1, table, sizeof table) != 0)
+        return;
+    for (size_t a = 0; a < 3; a++)
+        for (size_t b = 0; b < 3; b++)
+            if (table[3 * a + b])
+                printf("links lead from %zu to %zu\n", a, b);
+}
+
+int main(void)
+{
+    static const uint8_t local[] = {0, 2, 1}, remote_first[] = {1, 0, 2};
+
+    printf("check: %u\n", (unsigned)oglindesh_check(k1, sizeof k1));
+    printf("check of a shorter record: %u\n", (unsigned)oglindesh_check(k1, sizeof k1 - 1));
+    say_judgement(local, sizeof local);
+    say_judgement(remote_first, sizeof remote_first);
+    say_judgement(local, 2);
+    search_in_parts();
+    print_chains();
+    return 0;
+}

@@ -1,0 +1,280 @@
+//! An execution while it is read: places, initial bytes, programs and pairs.
+
+use super::words::{number_of, Fault, Words};
+use crate::reference::notation;
+use crate::reference::record::{Attribute, Execution, Instruction, Kind, Line, LINE_SIZE};
+
+/// Every count of a record is one byte.
+const MOST_COUNTED: usize = 255;
+
+/// An execution being read.
+pub(super) struct Draft {
+    places: Vec<(String, u8)>,
+    /// Address and byte.
+    initial: Vec<(u8, u8)>,
+    processors: usize,
+    instructions: Vec<Instruction>,
+    /// By instruction.
+    labels: Vec<Option<String>>,
+    pub(super) has_programs: bool,
+    pairs: Vec<(u8, u8)>,
+    /// The paper's order, for the claims after it.
+    pub(super) order: Option<Vec<u8>>,
+}
+
+impl Draft {
+    pub(super) fn new() -> Draft {
+        let places = [
+            ("x", notation::X),
+            ("y", notation::Y),
+            ("z", notation::Z),
+            ("w", notation::W),
+        ];
+        Draft {
+            places: places.map(|(name, at)| (name.to_string(), at)).to_vec(),
+            initial: Vec::new(),
+            processors: 0,
+            instructions: Vec::new(),
+            labels: Vec::new(),
+            has_programs: false,
+            pairs: Vec::new(),
+            order: None,
+        }
+    }
+
+    /// `y at 0, x at 8`.
+    pub(super) fn read_places(&mut self, words: &mut Words) -> Result<(), Fault> {
+        if self.has_programs || !self.initial.is_empty() {
+            return words.fault("write `places` before `initially` and `programs`".into());
+        }
+        loop {
+            let name = words.take("the name of a place")?.to_string();
+            if number_of(&name).is_some() {
+                return words.fault(format!("`{name}` is a number: write the name of a place"));
+            }
+            words.expect("at")?;
+            let address = words.number_to(255, "an address")? as u8;
+            self.places.retain(|(other, _)| *other != name);
+            self.places.push((name, address));
+            if !words.skip(",") {
+                return Ok(());
+            }
+        }
+    }
+
+    /// `x=5, x+1=6`.
+    pub(super) fn read_initially(&mut self, words: &mut Words) -> Result<(), Fault> {
+        loop {
+            let address = self.read_address(words)?;
+            words.expect("=")?;
+            let byte = words.number_to(255, "a byte, 0 to 255")? as u8;
+            self.initial.push((address, byte));
+            if !words.skip(",") {
+                return Ok(());
+            }
+        }
+    }
+
+    /// A place or a number, and what is added to it.
+    pub(super) fn read_address(&self, words: &mut Words) -> Result<u8, Fault> {
+        let word = words.take("a place or an address")?;
+        let mut address = self.address_of(words, word)?;
+        if words.skip("+") {
+            address += words.number_to(255, "how many bytes further")?;
+        }
+        match u8::try_from(address) {
+            Ok(address) => Ok(address),
+            Err(_) => words.fault(format!(
+                "address {address} is too large: write one up to 63"
+            )),
+        }
+    }
+
+    fn address_of(&self, words: &Words, word: &str) -> Result<u64, Fault> {
+        let place = self.places.iter().find(|(name, _)| name == word);
+        match (place, number_of(word)) {
+            (Some(&(_, at)), _) => Ok(u64::from(at)),
+            (None, Some(number)) => Ok(number),
+            (None, None) => words.fault(format!(
+                "`{word}` is not a place: write {}, or a line `places` that says where it is",
+                self.place_names()
+            )),
+        }
+    }
+
+    fn place_names(&self) -> String {
+        let names: Vec<&str> = self.places.iter().map(|(name, _)| name.as_str()).collect();
+        names.join(", ")
+    }
+
+    /// `st x=1, ld y sees 0; mf; none`: programs apart by semicolons, instructions by commas.
+    pub(super) fn read_programs(&mut self, words: &mut Words) -> Result<(), Fault> {
+        if self.has_programs {
+            return words.fault("the execution has programs already: write them in one line, or end the line before with `;`".into());
+        }
+        self.has_programs = true;
+        loop {
+            if !words.skip("none") {
+                self.read_program(words)?;
+            }
+            self.processors += 1;
+            counted(words, self.instructions.len().max(self.processors))?;
+            if !words.skip(";") {
+                return Ok(());
+            }
+        }
+    }
+
+    fn read_program(&mut self, words: &mut Words) -> Result<(), Fault> {
+        loop {
+            let instruction = self.read_instruction(words)?;
+            self.instructions.push(instruction);
+            if !words.skip(",") {
+                return Ok(());
+            }
+        }
+    }
+
+    /// `LA1: ld2.acq x sees 0x0077`.
+    fn read_instruction(&mut self, words: &mut Words) -> Result<Instruction, Fault> {
+        const WANTED: &str = "ld, ld.acq, st, st.rel or mf, with the size after ld or st where it is not 1, or `none` for a processor with no instruction";
+        let mut word = words.take(WANTED)?;
+        let mut label = None;
+        if words.skip(":") {
+            if self.labels.iter().flatten().any(|other| other == word) {
+                return words.fault(format!(
+                    "there is an instruction `{word}` above: write another name"
+                ));
+            }
+            if number_of(word).is_some() {
+                return words.fault(format!("`{word}` is a number: write a name before the `:`"));
+            }
+            label = Some(word.to_string());
+            word = words.take(WANTED)?;
+        }
+        self.labels.push(label);
+        let Some((kind, size)) = kind_and_size(word) else {
+            return words.fault(format!("`{word}` is not an instruction: write {WANTED}"));
+        };
+        if kind == Kind::Fence {
+            return Ok(self.placed(notation::mf()));
+        }
+        let address = self.read_address(words)?;
+        words.expect(if kind.is_load() { "sees" } else { "=" })?;
+        let value = self.read_value(words, size)?;
+        let bytes = &value.to_le_bytes()[..size];
+        Ok(self.placed(notation::access(kind, address, bytes)))
+    }
+
+    fn placed(&self, instruction: Instruction) -> Instruction {
+        Instruction {
+            processor: self.processors,
+            ..instruction
+        }
+    }
+
+    /// A number, or a place for its address, that `size` bytes hold.
+    fn read_value(&self, words: &mut Words, size: usize) -> Result<u64, Fault> {
+        let word = words.take("the value")?;
+        let value = self.address_of(words, word)?;
+        if size < 8 && value >> (8 * size) != 0 {
+            return words.fault(format!("{word} does not fit into size {size}: write a smaller value, or the size after ld or st"));
+        }
+        Ok(value)
+    }
+
+    /// `2 3, UL1 UL2`.
+    pub(super) fn read_pairs(&mut self, words: &mut Words) -> Result<(), Fault> {
+        loop {
+            let earlier = self.read_instruction_name(words)?;
+            let later = self.read_instruction_name(words)?;
+            self.pairs.push((earlier as u8, later as u8));
+            counted(words, self.pairs.len())?;
+            if !words.skip(",") {
+                return Ok(());
+            }
+        }
+    }
+
+    /// An instruction's label or number.
+    pub(super) fn read_instruction_name(&self, words: &mut Words) -> Result<usize, Fault> {
+        let word = words.take("the name or the number of an instruction")?;
+        let labelled = |label: &Option<String>| label.as_deref() == Some(word);
+        let found = self.labels.iter().position(labelled);
+        let number = number_of(word).map(|number| number as usize);
+        let count = self.instructions.len();
+        match found.or(number).filter(|&at| at < count) {
+            Some(at) => Ok(at),
+            None => words.fault(format!(
+                "`{word}` is not an instruction: write the name before its `:`, or its number, below {count}, after the line `programs`"
+            )),
+        }
+    }
+
+    /// The lines that accesses and initial bytes lie on.
+    pub(super) fn touched(&self) -> impl Iterator<Item = usize> + '_ {
+        let accesses = self.instructions.iter().filter(|i| i.size > 0);
+        let accesses = accesses.map(Instruction::line);
+        let initial = self.initial.iter();
+        accesses.chain(initial.map(|&(at, _)| usize::from(at) / LINE_SIZE))
+    }
+
+    /// As many lines as the accesses and the initial bytes need.
+    pub(super) fn line_count(&self) -> usize {
+        self.touched().max().unwrap_or(0) + 1
+    }
+
+    pub(super) fn execution(&self) -> Execution {
+        let line = Line {
+            attribute: Attribute::WriteBack,
+            initial: [0; LINE_SIZE],
+        };
+        let mut lines = vec![line; self.line_count()];
+        for &(address, byte) in &self.initial {
+            let address = usize::from(address);
+            lines[address / LINE_SIZE].initial[address % LINE_SIZE] = byte;
+        }
+        Execution::new(
+            self.processors,
+            lines,
+            self.instructions.clone(),
+            self.pairs.clone(),
+        )
+    }
+}
+
+/// A record can say so many.
+fn counted(words: &Words, count: usize) -> Result<(), Fault> {
+    if count <= MOST_COUNTED {
+        return Ok(());
+    }
+    words.fault(format!(
+        "{count} are more than a record counts: write at most {MOST_COUNTED}"
+    ))
+}
+
+/// `ld`, `ld2.acq` and so on; size 1 where none is written.
+fn kind_and_size(word: &str) -> Option<(Kind, usize)> {
+    if word == "mf" {
+        return Some((Kind::Fence, 0));
+    }
+    let (access, order) = match word.split_once('.') {
+        Some((access, order)) => (access, Some(order)),
+        None => (word, None),
+    };
+    let (name, size) = access.split_at_checked(2)?;
+    let kind = match (name, order) {
+        ("ld", None) => Kind::Load,
+        ("ld", Some("acq")) => Kind::LoadAcquire,
+        ("st", None) => Kind::Store,
+        ("st", Some("rel")) => Kind::StoreRelease,
+        _ => return None,
+    };
+    match size {
+        "" | "1" => Some((kind, 1)),
+        "2" => Some((kind, 2)),
+        "4" => Some((kind, 4)),
+        "8" => Some((kind, 8)),
+        _ => None,
+    }
+}

@@ -1,0 +1,116 @@
+//! Executions written as the papers write them, in text files: what a file holds, how it is read, how its claims are run.
+//! docs/EXECUTIONS.md says how to write one.
+
+mod claims;
+mod draft;
+mod reader;
+mod run;
+mod words;
+
+use crate::reference::record::{Attribute, Execution};
+use std::fmt;
+use std::path::Path;
+
+pub use reader::read;
+pub use run::{run, run_all, Ran};
+
+/// One execution of a file, and what is claimed of it.
+#[derive(Clone, PartialEq, Eq, Debug)]
+pub struct Written {
+    pub name: String,
+    /// Where it begins in its file, from 1.
+    pub line: usize,
+    /// With all lines WB.
+    pub execution: Execution,
+    pub claims: Vec<Claim>,
+}
+
+/// One claim, and the attributes that it is made for.
+#[derive(Clone, PartialEq, Eq, Debug)]
+pub struct Claim {
+    pub line: usize,
+    /// By line of memory: the attributes that it may have. The claim holds for every mix.
+    pub on: Vec<Vec<Attribute>>,
+    pub says: Says,
+}
+
+/// What is claimed.
+#[derive(Clone, PartialEq, Eq, Debug)]
+pub enum Says {
+    /// This question refuses the record.
+    Refused(u8),
+    /// The record passes, and has so many operations.
+    Operations(usize),
+    /// The judge finds this order legal.
+    Legal(Vec<u8>),
+    /// The lowest rule that this order breaks.
+    Breaks(u8, Vec<u8>),
+    /// The search finds an order: this one, after so many steps.
+    Allowed {
+        order: Option<Vec<u8>>,
+        steps: Option<u32>,
+    },
+    /// The search finds none, after so many steps.
+    Forbidden { steps: Option<u32> },
+    /// There are so many consistent prefixes, too many for a walk, and none of them is full.
+    ForbiddenBySets { prefixes: u64 },
+    /// With this allowance the search comes to this position.
+    Unfinished { position: Vec<u8>, allowance: u32 },
+}
+
+impl Written {
+    /// The execution under every mix of the attributes that a claim is made for.
+    pub fn mixes(&self, claim: &Claim) -> Vec<Execution> {
+        let mut mixes = vec![self.execution.clone()];
+        for (line, attributes) in claim.on.iter().enumerate() {
+            let with = |execution: &Execution, attribute: Attribute| {
+                let mut execution = execution.clone();
+                execution.lines[line].attribute = attribute;
+                execution
+            };
+            mixes = mixes
+                .iter()
+                .flat_map(|execution| attributes.iter().map(|&to| with(execution, to)))
+                .collect();
+        }
+        mixes
+    }
+}
+
+/// What is wrong, and where.
+#[derive(Clone, PartialEq, Eq, Debug)]
+pub struct Wrong {
+    pub file: String,
+    pub line: usize,
+    pub what: String,
+}
+
+impl fmt::Display for Wrong {
+    fn fmt(&self, f: &mut fmt::Formatter) -> fmt::Result {
+        write!(f, "{}:{}: {}", self.file, self.line, self.what)
+    }
+}
+
+/// Reads a file from the disk.
+pub fn load(path: &Path) -> Result<Vec<Written>, Wrong> {
+    load_as(&path.display().to_string(), path)
+}
+
+/// The files of the folder `executions`: document 01, source documents 000 and 001, our own.
+pub const SOURCES: [&str; 4] = ["scope", "computations", "note", "rules"];
+
+/// Reads one of the files of the folder `executions`, by its name without the ending.
+pub fn source(name: &str) -> Result<Vec<Written>, Wrong> {
+    let file = format!("executions/{name}.txt");
+    let path = Path::new(env!("CARGO_MANIFEST_DIR")).join("..").join(&file);
+    load_as(&file, &path)
+}
+
+fn load_as(file: &str, path: &Path) -> Result<Vec<Written>, Wrong> {
+    let text = std::fs::read_to_string(path).map_err(|error| Wrong {
+        file: file.to_string(),
+        line: 0,
+        what: format!("the file cannot be read: {error}"),
+    })?;
+    read(file, &text)
+}

@@ -1,0 +1,355 @@
+//! The files of executions: each claim through the proved library and beside it the brute force. And what the reader and the
+//! runner say of wrong lines.
+
+use oglindesh::beside;
+use oglindesh::examples::eight_processors;
+use oglindesh::executions::{read, run_all, source, Ran, Written};
+use oglindesh::reference::search::SearchAnswer;
+
+fn read_source(name: &str) -> Vec<Written> {
+    source(name).unwrap_or_else(|wrong| panic!("{wrong}"))
+}
+
+/// Runs a file of `executions/`, which must hold at least these.
+fn run_source(name: &str, expected: &[String]) -> Ran {
+    let executions = read_source(name);
+    for wanted in expected {
+        let found = executions.iter().any(|written| written.name == *wanted);
+        assert!(found, "executions/{name}.txt has no execution {wanted}");
+    }
+    let file = format!("executions/{name}.txt");
+    let ran = run_all(&file, &executions).unwrap_or_else(|wrong| panic!("{wrong}"));
+    assert_eq!(ran.uncounted, 0, "{file} is counted over sets too");
+    ran
+}
+
+#[test]
+fn document_01() {
+    let rows: Vec<String> = (1..=12).map(|row| format!("K{row}")).collect();
+    run_source("scope", &rows);
+}
+
+#[test]
+fn document_000() {
+    run_source("computations", &["computation 1".to_string()]);
+}
+
+/// Table 15 with the number of its prefixes; the first million of them are compared.
+#[test]
+fn the_note() {
+    let tables: Vec<String> = (4..=20).map(|table| format!("table {table}")).collect();
+    let ran = run_source("note", &tables);
+    assert!(ran.steps > 1_000_000, "{ran:?}");
+}
+
+#[test]
+fn our_own() {
+    run_source("rules", &[]);
+}
+
+/// 126 operations are too many for a count over sets; their stores stand as they are numbered.
+#[test]
+fn as_many_as_126_operations() {
+    let mut buffer = [0xee; 128];
+    let reply = beside::search(&eight_processors().to_bytes(), &mut buffer, 0, 126);
+    assert_eq!(
+        (reply.answer, reply.steps),
+        (SearchAnswer::Allowed, 126),
+        "{reply:?}"
+    );
+    assert!(buffer[..126].iter().copied().eq(0..126));
+    assert_eq!(buffer[126..], [0xee; 2]);
+}
+
+/// What is said of a file: where it is wrong.
+fn said(text: &str) -> String {
+    let executions = match read("f", text) {
+        Ok(executions) => executions,
+        Err(wrong) => return wrong.to_string(),
+    };
+    match run_all("f", &executions) {
+        Ok(_) => "nothing".to_string(),
+        Err(wrong) => wrong.to_string(),
+    }
+}
+
+/// The line `programs` of an execution, and a line after it.
+fn said_after(programs: &str, line: &str) -> String {
+    said(&format!(
+        "execution e\n  programs {programs}\n  {line}\n  allowed\n"
+    ))
+}
+
+/// Lines, and how the message about them begins.
+const WRONG_LINES: [(&str, &str); 35] = [
+    ("allowed", "f:1: `allowed` stands before any execution"),
+    ("execution", "f:1: the execution has no name"),
+    ("execution e", "f:1: the execution has no programs"),
+    (
+        "execution e\n\n# a comment\nprograms ld x sees 0",
+        "f:1: nothing is claimed",
+    ),
+    (
+        "execution e\nprograms ld x sees 0\nallowed\nexecution e\nprograms mf\nallowed",
+        "f:4: there is an execution `e` above",
+    ),
+    (
+        "execution e\nprogram ld x sees 0",
+        "f:2: `program` does not begin a line: write execution, ",
+    ),
+    ("execution e\nprograms", "f:2: the line ends too early: write ld, "),
+    (
+        "execution e\nprograms ld x sees 0;",
+        "f:2: the line ends too early: write ld, ",
+    ),
+    (
+        "execution e\nprograms ld x sees 0,\n\n  lod x sees 0",
+        "f:4: `lod` is not an instruction: write ld, ",
+    ),
+    (
+        "execution e\nprograms ld3 x sees 0",
+        "f:2: `ld3` is not an instruction",
+    ),
+    (
+        "execution e\nprograms ld.rel x sees 0",
+        "f:2: `ld.rel` is not an instruction",
+    ),
+    (
+        "execution e\nprograms ld v sees 0",
+        "f:2: `v` is not a place: write x, y, z, w, or a line `places`",
+    ),
+    (
+        "execution e\nprograms ld x=0",
+        "f:2: `=` stands where `sees` is expected",
+    ),
+    (
+        "execution e\nprograms st x sees 0",
+        "f:2: `sees` stands where `=` is expected",
+    ),
+    (
+        "execution e\nprograms st x=256",
+        "f:2: 256 does not fit into size 1",
+    ),
+    (
+        "execution e\nprograms st2 x=0x10000",
+        "f:2: 0x10000 does not fit into size 2",
+    ),
+    (
+        "execution e\nprograms ld x sees 0 ld y sees 0",
+        "f:2: `ld` is left over at the end",
+    ),
+    (
+        "execution e\nprograms a: mf, a: mf",
+        "f:2: there is an instruction `a` above",
+    ),
+    (
+        "execution e\nprograms 1: mf",
+        "f:2: `1` is a number: write a name before the `:`",
+    ),
+    (
+        "execution e\nprograms ld x sees 0\nallowed\ninitially x=0",
+        "f:4: write `initially` before what is claimed",
+    ),
+    (
+        "execution e\nprograms mf\nprograms mf",
+        "f:3: the execution has programs already",
+    ),
+    (
+        "execution e\nprograms mf\nplaces v at 0",
+        "f:3: write `places` before",
+    ),
+    ("execution e\nplaces 3 at 0", "f:2: `3` is a number"),
+    (
+        "execution e\nplaces v at 256",
+        "f:2: 256 is too large: write an address",
+    ),
+    (
+        "execution e\ninitially x=256",
+        "f:2: 256 is too large: write a byte",
+    ),
+    ("execution e\nallowed", "f:2: write `programs` before `allowed`"),
+    (
+        "execution e\nprograms ld8 4 sees 0\nallowed",
+        "f:3: the execution fails question 8 (is the address a multiple of the size, within the lines?)",
+    ),
+    (
+        "execution e\nprograms ld 64 sees 0\nallowed",
+        "f:3: the execution fails question 3",
+    ),
+    (
+        "execution e\nprograms none\nforbidden",
+        "f:3: the execution fails question 10",
+    ),
+    (
+        "execution e\nprograms st x=1, st x=2\npairs 0 1\nallowed",
+        "f:4: the execution fails question 13",
+    ),
+    ("execution e\nprograms mf\nlegal", "f:3: `legal` is said of no order"),
+    (
+        "execution e\nprograms mf\nunfinished steps 1",
+        "f:3: `unfinished` has not the parts that it takes",
+    ),
+    (
+        "execution e\nprograms mf\nforbidden by sets",
+        "f:3: `forbidden` has not the parts that it takes",
+    ),
+    (
+        "execution e\nprograms mf\nallowed steps 1 steps 1",
+        "f:3: `steps` does not belong here, or stands here twice",
+    ),
+    (
+        "execution e\nprograms mf\nbreaks 15 order 0",
+        "f:3: 15 is too large: write the number of a rule",
+    ),
+];
+
+#[test]
+fn wrong_lines_are_told() {
+    for (text, beginning) in WRONG_LINES {
+        let said = said(text);
+        assert!(said.starts_with(beginning), "{text:?} gives {said}");
+    }
+}
+
+/// Lines after `programs a: st x=1, b: ld y sees 0`, and how the message about them begins.
+const WRONG_NAMES: [(&str, &str); 12] = [
+    ("pairs 0", "f:3: the line ends too early"),
+    ("pairs 0 2", "f:3: `2` is not an instruction"),
+    ("pairs a c", "f:3: `c` is not an instruction"),
+    ("order", "f:3: the order is empty"),
+    (
+        "order 0 3",
+        "f:3: there is no operation 3: write one below 3",
+    ),
+    ("order RV(a)", "f:3: `RV` is not an operation"),
+    ("order LV(b)", "f:3: the instruction has no operation LV"),
+    ("order RVq(a)", "f:3: the instruction has no operation RVq"),
+    ("order R b", "f:3: `b` stands where `(` is expected"),
+    ("allowed on WX", "f:3: `WX` is not a place"),
+    (
+        "allowed on x WB or",
+        "f:3: the line ends too early: write WB, ",
+    ),
+    (
+        "allowed on x WB",
+        "f:3: the line of address 8 has no attribute",
+    ),
+];
+
+#[test]
+fn wrong_names_are_told() {
+    for (line, beginning) in WRONG_NAMES {
+        let said = said_after("a: st x=1, b: ld y sees 0", line);
+        assert!(said.starts_with(beginning), "{line:?} gives {said}");
+    }
+}
+
+/// Claims about `st x=1, ld x sees 1` that are not so, and a part of the message about them.
+const WRONG_CLAIMS: [(&str, &str); 10] = [
+    ("forbidden", "f:3: e on WB: answer: Allowed, not Forbidden"),
+    ("allowed steps 4", "steps: 3, not 4 as claimed"),
+    ("allowed order 0 2 1", "order: [0, 1, 2], not [0, 2, 1]"),
+    (
+        "unfinished order 0 2 steps 2",
+        "position: [0, 1], not [0, 2]",
+    ),
+    (
+        "unfinished order 0 1 2 steps 3",
+        "answer: Allowed, not Unfinished",
+    ),
+    ("legal order 1 0 2", "judgement: Breaks(1), not Legal"),
+    (
+        "breaks 14 on any order 0 2 1",
+        "f:3: e on WB: judgement: Legal",
+    ),
+    ("refused 8", "check: Ok(()), not Err(8)"),
+    ("operations 4", "number of operations: Ok(3), not Ok(4)"),
+    (
+        "forbidden by sets steps 3",
+        "prefixes by sets: Some(Counted",
+    ),
+];
+
+#[test]
+fn wrong_claims_are_told() {
+    for (claim, part) in WRONG_CLAIMS {
+        let said = said_after("st x=1, ld x sees 1", claim);
+        assert!(said.contains(part), "{claim:?} gives {said}");
+    }
+}
+
+/// A record counts to 255, and the questions ask for less.
+#[test]
+fn too_many_are_told() {
+    let many = |count: usize, claim: &str| {
+        let programs = vec!["mf"; count].join(", ");
+        said(&format!("execution e\nprograms {programs}\n{claim}"))
+    };
+    assert_eq!(many(40, "operations 40"), "nothing");
+    assert_eq!(many(41, "refused 5"), "nothing");
+    assert!(many(41, "allowed").starts_with("f:3: the execution fails question 5"));
+    assert!(many(256, "refused 5").starts_with("f:2: 256 are more than a record counts"));
+    let processors = ["mf"; 9].join("; ");
+    let text = format!("execution e\nprograms {processors}\nrefused 2");
+    assert_eq!(said(&text), "nothing");
+}
+
+/// Of several wrong claims the first is told, whichever thread ran it.
+#[test]
+fn the_first_wrong_claim_is_told() {
+    let mut text = "execution e\nprograms st x=1, ld x sees 1\nallowed\n".to_string();
+    text += &"legal order 0 1 2\n".repeat(50);
+    text += &"forbidden\n".repeat(50);
+    assert!(said(&text).starts_with("f:54: "), "{}", said(&text));
+}
+
+/// Too many states to count are no fault of the execution.
+#[test]
+fn what_is_not_counted() {
+    let program = |at: usize| format!("st {0}=1, st {1}=1, st {2}=1", at, at + 1, at + 2);
+    let programs: Vec<String> = (0..4).map(|p| program(8 * p)).collect();
+    let text = format!("execution e\nprograms {}\nallowed", programs.join("; "));
+    let executions = read("f", &text).unwrap_or_else(|wrong| panic!("{wrong}"));
+    let ran = run_all("f", &executions).unwrap_or_else(|wrong| panic!("{wrong}"));
+    assert_eq!((ran.steps, ran.uncounted), (60, 1));
+}
+
+/// What may be written: sizes, labels, places, initial bytes, numbers of both kinds, comments, lines that go on.
+#[test]
+fn what_may_be_written() {
+    let text = "
+# a comment
+execution all of it   # and one here
+  source    free text, with signs;
+  places    v at 4, u at 16
+  initially v=0x05, v+1=6, 17=9
+  programs  A: ld2.acq v sees 0x0605, mf,
+            B: st4.rel x=70000; none;
+            ld u+1 sees 9   # the last
+  pairs     A B
+  allowed   on x any, u WB or WC steps 7
+  order     R(A) -> F(1) -> LV(B) -> RVp(B) -> RV1(B) ->
+            RVr(2) -> R(3)
+  legal     on x WB, u UC
+  breaks 2  order 1 0 2 3 4 5 6
+";
+    let executions = read("f", text).unwrap_or_else(|wrong| panic!("{wrong}"));
+    let bytes = executions[0].execution.to_bytes();
+    let expected = [
+        &[3, 3][..],
+        &[0, 0, 0, 0, 0, 5, 6, 0, 0],
+        &[0, 0, 0, 0, 0, 0, 0, 0, 0],
+        &[0, 0, 9, 0, 0, 0, 0, 0, 0],
+        &[3],
+        &[1, 4, 2, 5, 6, 0, 0, 0, 0, 0, 0],
+        &[4, 0, 0, 0, 0, 0, 0, 0, 0, 0, 0],
+        &[3, 0, 4, 112, 17, 1, 0, 0, 0, 0, 0],
+        &[0],
+        &[1],
+        &[0, 17, 1, 9, 0, 0, 0, 0, 0, 0, 0],
+        &[1, 0, 2],
+    ];
+    assert_eq!(bytes, expected.concat());
+    let ran = run_all("f", &executions).unwrap_or_else(|wrong| panic!("{wrong}"));
+    assert_eq!(ran.executions, 6 + 1 + 1);
+}
