@@ -4,7 +4,7 @@ use std::time::Instant;
 
 use oglindesh::examples::{eight_processors, named};
 use oglindesh::proved::{self, Verdict};
-use oglindesh::reference::notation::{ld, programs, st, X};
+use oglindesh::reference::notation::{ld, programs, st, X, Y, Z};
 use oglindesh::reference::record::Execution;
 use oglindesh::reference::search::SearchAnswer;
 use oglindesh::reference::{chains, fast, rules};
@@ -79,6 +79,27 @@ fn search_line(name: &str, execution: &Execution, allowance: u32) {
     );
 }
 
+/// The microseconds that a whole call takes both ways: reading, questions, tables, and the steps it makes.
+fn call_line(name: &str, execution: &Execution, allowance: u32) {
+    let bytes = execution.to_bytes();
+    let mut buffer = [0; 128];
+    let steps = fast::search(&bytes, &mut buffer, 0, allowance).steps;
+    let proved = microseconds(CALLS_TIMED, || {
+        let reply = proved::search(&bytes, &mut buffer, 0, allowance);
+        assert_eq!(reply.steps, steps);
+    });
+    let reference = microseconds(CALLS_TIMED, || {
+        fast::search(&bytes, &mut buffer, 0, allowance);
+    });
+    println!(
+        "search call, {name}, {} operations, {steps} steps: proved {proved:.1} us, plain Rust {reference:.1} us",
+        execution.operation_count()
+    );
+}
+
+/// Calls over which a call is timed.
+const CALLS_TIMED: u32 = 2_000;
+
 /// Steps over which a search is timed.
 const STEPS_TIMED: u32 = 200_000;
 
@@ -97,6 +118,19 @@ fn overlapping_loads() -> Execution {
     let (p0, p1, p2) = (p(1), p(3), p(5));
     let p3 = [ld(X, 0), ld(X, 0), ld(X, 9)];
     programs(&[&p0, &p1, &p2, &p3]).build()
+}
+
+/// Eight processors with thirteen stores and nine loads, 126 operations; the last load forbids it all.
+fn many_operations() -> Execution {
+    let p0 = [st(X, 1), st(Y, 1), ld(X, 1)];
+    let p1 = [st(X, 2), st(Y, 2), ld(Y, 2)];
+    let p2 = [st(X, 3), st(Z, 1), ld(X, 3)];
+    let p3 = [st(Y, 3), st(Z, 2), ld(Z, 2)];
+    let p4 = [st(Z, 3), st(X, 4), ld(X, 4)];
+    let p5 = [st(Y, 4), st(Z, 4), ld(Y, 4)];
+    let p6 = [st(X, 5), ld(X, 5)];
+    let p7 = [ld(X, 0), ld(X, 9)];
+    programs(&[&p0, &p1, &p2, &p3, &p4, &p5, &p6, &p7]).build()
 }
 
 /// Consistent prefixes of the note's table 15 (executions/note.txt), all of which a search walks over.
@@ -134,6 +168,9 @@ fn main() {
     judge_line(&execution);
     chain_table_line(&execution);
     search_line("table 15", &named("note", "table 15"), 100_000);
-    search_line("eight processors", &execution, 126);
+    search_line("many operations", &many_operations(), 100_000);
     search_line("overlapping loads", &overlapping_loads(), 100_000);
+    call_line("table 15", &named("note", "table 15"), 0);
+    call_line("many operations", &many_operations(), 0);
+    call_line("eight processors", &execution, 126);
 }
