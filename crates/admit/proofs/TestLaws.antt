@@ -1,5 +1,5 @@
 -- What the parts of the test come to: bits of words, and the members of a set that do not stand.
-use Prim.Native.Nat.{ℕ, _+_, _/_, _%_, _^_, _≤_, _<_}
+use Prim.Native.Nat.{ℕ, _+_, _%_, _^_, _≤_, _<_}
 use native.Mathlib.Omega.{arith}
 use mathlib.Core.Path.{_≡_, refl, sym, ap, ap₂, _∙_}
 use mathlib.Core.Bool.{Bool, true, false, not, cond, _&&_, _||_, and-assoc}
@@ -10,7 +10,7 @@ use lib.Dec.{eqb, ltb}
 use borrow.Author.Tests.{eq-eqb, ne-eqb, eqb-true, le-ltb, lt-ltb, not-true, not-false}
 use Rattle.base.specs.Below.{allBelow, anyBelow}
 use Rattle.base.specs.Bits.{bit}
-use Rattle.base.proofs.Bools.{agree, and-both, kept, left-out}
+use Rattle.base.proofs.Bools.{agree, and-both, kept}
 use Rattle.base.proofs.Tests.{all-at, all-below, all-same, any-passes, any-below-same}
 use Rattle.sets.specs.Set.{holds}
 use Rattle.sets.proofs.Bit.{has-and, has-or}

@@ -200,7 +200,13 @@ fn passes(rows: &[u64; 2304], places: &[u8; 128], words: &[u64; 128], stand: Set
 
 // Whether operation x, which does not stand, may follow: `stand` has the operations that stand, `places` their places, `words` what they wrote. Most
 // operations wait for a predecessor, so that is asked first, and small enough to be asked in place.
-pub fn fits(rows: &[u64; 2304], places: &[u8; 128], words: &[u64; 128], stand: Set, x: usize) -> bool
+pub fn fits(
+    rows: &[u64; 2304],
+    places: &[u8; 128],
+    words: &[u64; 128],
+    stand: Set,
+    x: usize,
+) -> bool
     requires { ⌜ x < 128 ⌝ }
     ensures { λ r. ⌜ r ≡ fitsBy (now (rows .entry)) (now (places .entry)) (stand .lo) (stand .hi) (now (words .entry)) x ⌝ }
 {

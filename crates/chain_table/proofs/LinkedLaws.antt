@@ -7,10 +7,8 @@ use mathlib.Core.List.{List, [], _∷_, List·Memᴰ, List·Memᴰ·head, List·
 use mathlib.Core.Logic.{⊎-elim}
 use lib.ListN.{length, getD}
 use Rattle.base.specs.Lists.{when, for, below}
-use Rattle.base.specs.Below.{anyBelow}
 use Rattle.base.proofs.Bools.{agree}
 use Rattle.base.proofs.Lists.{of-for, in-for}
-use Rattle.base.proofs.Tests.{any-below-same}
 use Rattle.model.specs.Execution as model
 use Rattle.model.specs.Execution.{Instruction, Operation, F, roles, numberOf, operationCount, operations, operationsOf, allOperations}
 use Rattle.model.specs.Rules.{Link, linksOf, linked}
@@ -18,15 +16,13 @@ use Rattle.model.specs.Chains.{leads}
 use Rattle.model.proofs.Accepted.{Laid, Accepted}
 use Rattle.model.proofs.Numbers.{role-number}
 use Rattle.decoded.specs.declared.types.Execution.{Execution}
-use Rattle.decoded.specs.Decoded.{instructionAt, executionOf}
-use Rattle.marks.specs.Marks.{marksBetween}
+use Rattle.decoded.specs.Decoded.{executionOf}
 use Rattle.links.specs.declared.operations.Operations.{Operations}
 use Rattle.links.specs.Operations.{operationAt, tableOf}
-use Rattle.links.specs.Links.{linkBy, linkOf}
 use Rattle.links.specs.Compiled.{Compiled}
-use Rattle.links.proofs.CompiledLaws.{operation-there, owner-there}
-use Rattle.links.proofs.LinkLaws.{operation-role, operation-processor, link-means, linked-by}
-use Rattle.chain_table.specs.Squares.{linkedBy, linkedIn}
+use Rattle.links.proofs.CompiledLaws.{operation-there}
+use Rattle.links.specs.Linked.{linkedAt}
+use Rattle.links.proofs.LinkedLaws.{linked-means}
 use Rattle.chain_table.specs.Paths.{Within, MarksArePaths}
 use Rattle.chain_table.proofs.PathLaws.{leads-link, link-leads, marks-are-paths}
 
@@ -111,21 +107,11 @@ module _ {x : Execution} {t : Operations} {marks : List (List ℕ)} (h : Compile
     mb : List·Memᴰ second (allOperations e)
     mb = operation-there h b lb
 
-    linked-here : linkedIn (x .instructions) t marks a b ≡ linked e first second
-    unfolding linkedIn linkedBy operationAt instructionAt
-    linked-here =
-        ap (λ (m : ℕ). anyBelow 14 (λ rule. linkBy rule m (first .instruction .processor) (first .role) (second .role)))
-        (h .marked (getD (t .owners) a 0) (getD (t .owners) b 0) (owner-there h a la) (owner-there h b lb))
-        ∙ any-below-same (λ rule. linkBy rule (marksBetween e (first .instruction) (second .instruction)) (first .instruction .processor) (first .role) (second .role))
-        (λ rule. linkOf e rule first second) 14
-        (λ rule l. link-means e rule (e .processors) first second (operation-role e first ma) (operation-role e second mb) (operation-processor e laid first second ma mb))
-        ∙ sym (linked-by e first second)
-
     -- the table's test is whether a link leads from a to b
-    pub leads-here : linkedIn (x .instructions) t marks a b ≡ leads (operations e) (linksOf e (linked e)) a b
+    pub leads-here : linkedAt (x .instructions) t marks a b ≡ leads (operations e) (linksOf e (linked e)) a b
     unfolding operationAt
     leads-here =
-        linked-here
+        linked-means h laid a b la lb
         ∙ agree (linked e first second) (leads (operations e) (linksOf e (linked e)) a b)
         (λ s. link-leads (operations e) (linksOf e (linked e)) (link-in e (linked e) ma mb s))
         (λ s.

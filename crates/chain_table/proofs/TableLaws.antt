@@ -25,7 +25,8 @@ use Rattle.links.specs.Compiled.{Compiled}
 use Rattle.links.proofs.CompiledLaws.{few-operations, few-instructions, owner-there}
 use Rattle.chain_table.specs.declared.TableAnswer.the-variants.{Done, Refused}
 use Rattle.chain_table.specs.Replies.{replyOf, tableFor}
-use Rattle.chain_table.specs.Squares.{markOf, marked, Holds, linkedIn, via, closedBy, rowMarks, squareMarks}
+use Rattle.links.specs.Linked.{linkedAt}
+use Rattle.chain_table.specs.Squares.{markOf, marked, Holds, via, closedBy, rowMarks, squareMarks}
 use Rattle.chain_table.specs.Paths.{Within, CellsArePaths}
 use Rattle.chain_table.proofs.RowLaws.{square-length}
 use Rattle.chain_table.proofs.PathLaws.{mark-is-closed, cells-are-paths}
@@ -113,7 +114,7 @@ module _ (x : Execution) (a : Accepted (executionOf x)) where
       owners-few o l = omega (arith, owner-there c o l, few-instructions x a)
 
       -- the closed square
-      module _ (links chains : List (List ℕ)) (filled : Holds (t .count) links (linkedIn (x .instructions) t marks)) (closed : Holds (t .count) chains (closedBy (t .count) (marked links))) where
+      module _ (links chains : List (List ℕ)) (filled : Holds (t .count) links (linkedAt (x .instructions) t marks)) (closed : Holds (t .count) chains (closedBy (t .count) (marked links))) where
         holds : Holds (operations e) chains (closedBy (operations e) (leads (operations e) (linksOf e (linked e))))
         holds = subst (λ (n : ℕ). Holds n chains (closedBy n (leads (operations e) (linksOf e (linked e))))) counts
             (λ i j p q. closed i j p q

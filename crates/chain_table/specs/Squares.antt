@@ -6,13 +6,6 @@ use mathlib.Core.List.{List, [], map}
 use lib.ListN.{getD}
 use lib.Dec.{eqb}
 use Rattle.base.specs.Lists.{for, below}
-use Rattle.base.specs.Below.{anyBelow}
-use Rattle.model.specs.Execution.{Role}
-use Rattle.decoded.specs.Kinds.{roleNumbered}
-use Rattle.decoded.specs.declared.types.Instructions.{Instructions}
-use Rattle.marks.specs.Marks.{markAt}
-use Rattle.links.specs.Links.{linkBy}
-use Rattle.links.specs.declared.operations.Operations.{Operations}
 
 -- a test as a mark
 abbrev pub markOf : Bool → ℕ
@@ -29,17 +22,6 @@ marked m a b = eqb (cell m a b) 1
 -- the marks of the first n rows and columns are a relation
 abbrev pub Holds : ℕ → List (List ℕ) → (ℕ → ℕ → Bool) → Type 0
 Holds n m r = (a b : ℕ) → a < n → b < n → marked m a b ≡ r a b
-
--- some rule links two operations, by the marks of their instructions and their roles
-unfoldable pub linkedBy : ℕ → ℕ → Role → Role → Bool
-linkedBy marks processor a b = anyBelow 14 (λ rule. linkBy rule marks processor a b)
-
--- some rule links operation a of the table to operation b
-unfoldable pub linkedIn : Instructions → Operations → List (List ℕ) → ℕ → ℕ → Bool
-linkedIn is t marks a b =
-    let first = getD (t .owners) a 0 in
-    let second = getD (t .owners) b 0 in
-    linkedBy (markAt marks first second) (getD (is .processors) first 0) (roleNumbered (getD (t .roles) a 0)) (roleNumbered (getD (t .roles) b 0))
 
 -- a leads to b, or to k, which leads to b
 unfoldable pub via : ℕ → (ℕ → ℕ → Bool) → ℕ → ℕ → Bool

@@ -3,25 +3,13 @@ ghost use mathlib.Core.Path.{_≡_};
 ghost use Prim.Native.Nat.{ℕ, _<_, _≤_};
 ghost use lib.ListN.{getD};
 ghost use lib.Dec.{eqb};
-ghost use Rattle.decoded.specs.Kinds.{roleNumbered};
-ghost use Rattle.chain_table.specs.Squares.{markOf, marked, Holds, linkedBy, linkedIn};
+ghost use Rattle.links.specs.Linked.{linkedAt};
+ghost use Rattle.chain_table.specs.Squares.{markOf, marked, Holds};
 use decoded::types::Instructions;
 use decoded::types::OperationNo;
 use decoded::types::wide;
-use links::link::link;
+use links::link::is_linked;
 use links::operations::Operations;
-
-// Whether some rule links two operations, by the marks of their instructions and their roles. The rules with a link are among 1 to 13.
-fn is_linked(marks: u16, processor: u8, a: u8, b: u8) -> bool
-    ensures { λ r. ⌜ r ≡ linkedBy marks processor (roleNumbered a) (roleNumbered b) ⌝ }
-{
-    for rule in 0..14 {
-        if link(rule, marks, processor, a, b) {
-            return true;
-        }
-    }
-    false
-}
 
 // 1 for a test that holds, else 0.
 pub fn mark_of(holds: bool) -> u8
@@ -48,7 +36,7 @@ fn links_row(
     from: OperationNo,
 ) -> [u8; 128]
     requires { ⌜ (from .0 < t .count) × (t .count ≤ 128) × ((o : ℕ) → o < t .count → getD (t .owners) o 0 < 40) ⌝ }
-    ensures { λ r. ⌜ ((b : ℕ) → b < t .count → eqb (getD r b 0) 1 ≡ linkedIn is t (now (marks .entry)) (from .0) b) ⌝ }
+    ensures { λ r. ⌜ ((b : ℕ) → b < t .count → eqb (getD r b 0) 1 ≡ linkedAt is t (now (marks .entry)) (from .0) b) ⌝ }
 {
     let a = from.0;
     let n = t.count;
@@ -70,7 +58,7 @@ fn links_row(
 // The links between all operations.
 pub fn links_square(is: Instructions, t: Operations, marks: &[[u16; 40]; 40]) -> [[u8; 128]; 128]
     requires { ⌜ (t .count ≤ 128) × ((o : ℕ) → o < t .count → getD (t .owners) o 0 < 40) ⌝ }
-    ensures { λ r. ⌜ Holds (t .count) r (linkedIn is t (now (marks .entry))) ⌝ }
+    ensures { λ r. ⌜ Holds (t .count) r (linkedAt is t (now (marks .entry))) ⌝ }
 {
     let n = t.count;
     let mut square = [[0u8; 128]; 128];

@@ -5,24 +5,9 @@ use mathlib.Core.List.{List, map}
 use lib.ListN.{getD}
 use lib.Dec.{ltb}
 use Rattle.base.specs.Lists.{below, member}
-use Rattle.base.specs.Below.{anyBelow}
-use Rattle.model.specs.Execution.{Role}
-use Rattle.decoded.specs.Kinds.{roleNumbered}
 use Rattle.decoded.specs.declared.types.Execution.{Execution}
-use Rattle.decoded.specs.declared.types.Instructions.{Instructions}
 use Rattle.marks.specs.Marks.{hasMark, markAt}
 use Rattle.links.specs.declared.operations.Operations.{Operations}
-use Rattle.links.specs.Links.{linkBy}
-
--- some rule links two operations, by the marks of their instructions and their roles, the first of processor p
-unfoldable pub linkedBy : ℕ → ℕ → Role → Role → Bool
-linkedBy marks p a b = anyBelow 14 (λ rule. linkBy rule marks p a b)
-
--- some rule links operation a to operation o
-unfoldable pub linkedAt : Instructions → Operations → List (List ℕ) → ℕ → ℕ → Bool
-linkedAt is t marks o a =
-    linkedBy (markAt marks (getD (t .owners) a 0) (getD (t .owners) o 0)) (getD (is .processors) (getD (t .owners) a 0) 0)
-    (roleNumbered (getD (t .roles) a 0)) (roleNumbered (getD (t .roles) o 0))
 
 -- the numbers of the RVs of a store, by that of its LV
 unfoldable pub remotesFrom : ℕ → ℕ → List ℕ

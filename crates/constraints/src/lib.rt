@@ -7,13 +7,13 @@ ghost use lib.Dec.{eqb, ltb};
 ghost use Rattle.base.specs.Lists.{member};
 ghost use Rattle.model.specs.Execution.{isStore, kindOf, operations};
 ghost use Rattle.model.proofs.Accepted.{Accepted};
-ghost use Rattle.decoded.specs.Kinds.{roleNumbered};
 ghost use Rattle.decoded.specs.Decoded.{executionOf};
 ghost use Rattle.links.specs.Compiled.{Compiled};
 ghost use Rattle.sets.specs.Set.{holds};
 ghost use Rattle.base.specs.Below.{anyBelow};
 ghost use Rattle.admit.specs.Rows.{rivalBy, rivalOf, bypassOf};
-ghost use Rattle.constraints.specs.Rows.{linkedBy, linkedAt, remotesFrom, partnerAt};
+ghost use Rattle.links.specs.Linked.{linkedAt};
+ghost use Rattle.constraints.specs.Rows.{remotesFrom, partnerAt};
 use decoded::kind::ROLE_R;
 use decoded::kind::ROLE_RV;
 use decoded::kind::is_store;
@@ -22,7 +22,7 @@ use decoded::types::Execution;
 use decoded::types::Instructions;
 use decoded::types::wide;
 use decoded::types::wide16;
-use links::link::link;
+use links::link::is_linked;
 use links::operations::Operations;
 use marks::table::ATOMIC;
 use marks::table::BYPASS;
@@ -31,44 +31,6 @@ use marks::table::both;
 use marks::table::has_mark;
 use sets::Set;
 use sets::insert;
-
-// Whether some rule links two operations, the first of `processor`. The marks that links ask for are below CONFLICT, and from an RV only rules 1, 3
-// and 4 link.
-fn is_linked(marks: u16, processor: u8, a: u8, b: u8) -> bool
-    ensures { λ r. ⌜ r ≡ linkedBy marks processor (roleNumbered a) (roleNumbered b) ⌝ }
-{
-    if marks % CONFLICT == 0 {
-        return false;
-    }
-    if link(1, marks, processor, a, b) {
-        return true;
-    }
-    if link(3, marks, processor, a, b) {
-        return true;
-    }
-    if link(4, marks, processor, a, b) {
-        return true;
-    }
-    if a >= ROLE_RV {
-        return false;
-    }
-    if link(2, marks, processor, a, b) {
-        return true;
-    }
-    if link(5, marks, processor, a, b) {
-        return true;
-    }
-    if link(6, marks, processor, a, b) {
-        return true;
-    }
-    if link(7, marks, processor, a, b) {
-        return true;
-    }
-    if link(8, marks, processor, a, b) {
-        return true;
-    }
-    link(13, marks, processor, a, b)
-}
 
 // A set, with operation a where that is linked.
 fn with_linked(set: Set, a: usize, linked: bool) -> Set
@@ -94,7 +56,7 @@ fn with_operation(set: Set, a: usize, wanted: bool) -> Set
 // The operations that must stand before operation o.
 pub fn preds_at(is: Instructions, t: Operations, marks: &[[u16; 40]; 40], o: usize) -> Set
     requires { ⌜ (t .count ≤ 128) × (o < t .count) × ((k : ℕ) → k < t .count → getD (t .owners) k 0 < 40) ⌝ }
-    ensures { λ r. ⌜ ((a : ℕ) → holds (r .lo) (r .hi) a ≡ (ltb a (t .count) && linkedAt is t (now (marks .entry)) o a)) ⌝ }
+    ensures { λ r. ⌜ ((a : ℕ) → holds (r .lo) (r .hi) a ≡ (ltb a (t .count) && linkedAt is t (now (marks .entry)) a o)) ⌝ }
 {
     let n = t.count;
     let owners = t.owners;

@@ -3,3 +3,4 @@ pub mod OperationLaws
 pub mod RoleLaws
 pub mod LinkLaws
 pub mod CompiledLaws
+pub mod LinkedLaws

@@ -6,10 +6,12 @@ ghost use lib.Dec.{eqb};
 ghost use Rattle.model.specs.Rules.{hasRoleR, hasRoleLV, hasRoleRV, sameVisibility};
 ghost use Rattle.decoded.specs.Kinds.{roleNumbered};
 ghost use Rattle.links.specs.Links.{ruleMark, rolesLink, linkBy};
+ghost use Rattle.links.specs.Linked.{linkedBy};
 use decoded::kind::ROLE_LV;
 use decoded::kind::ROLE_R;
 use decoded::kind::ROLE_RV;
 use marks::table::ACQUIRE;
+use marks::table::CONFLICT;
 use marks::table::FENCE;
 use marks::table::OVERLAP;
 use marks::table::PAIR;
@@ -132,4 +134,42 @@ pub fn link(rule: u8, marks: u16, processor: u8, a: u8, b: u8) -> bool
         has_mark(marks, rule_mark(rule)),
         roles_link(rule, processor, a, b),
     )
+}
+
+// Whether some rule links two operations, the first of `processor`. The marks that links ask for are below CONFLICT, and from an RV only rules 1, 3
+// and 4 link.
+pub fn is_linked(marks: u16, processor: u8, a: u8, b: u8) -> bool
+    ensures { λ r. ⌜ r ≡ linkedBy marks processor (roleNumbered a) (roleNumbered b) ⌝ }
+{
+    if marks % CONFLICT == 0 {
+        return false;
+    }
+    if link(1, marks, processor, a, b) {
+        return true;
+    }
+    if link(3, marks, processor, a, b) {
+        return true;
+    }
+    if link(4, marks, processor, a, b) {
+        return true;
+    }
+    if a >= ROLE_RV {
+        return false;
+    }
+    if link(2, marks, processor, a, b) {
+        return true;
+    }
+    if link(5, marks, processor, a, b) {
+        return true;
+    }
+    if link(6, marks, processor, a, b) {
+        return true;
+    }
+    if link(7, marks, processor, a, b) {
+        return true;
+    }
+    if link(8, marks, processor, a, b) {
+        return true;
+    }
+    link(13, marks, processor, a, b)
 }

@@ -1,21 +1,21 @@
 -- The bytes of instructions and lines, as bits of words.
-use Prim.Native.Nat.{ℕ, zero, suc, _+_, _*_, _-_, _/_, _%_, _^_, _≤_, _<_}
+use Prim.Native.Nat.{ℕ, _+_, _*_, _-_, _/_, _%_, _≤_, _<_}
 use native.Mathlib.Omega.{arith}
 use mathlib.Core.Path.{_≡_, refl, sym, ap, ap₂, _∙_, subst}
 use mathlib.Core.Bool.{Bool, true, false, cond, _&&_, _||_}
 use mathlib.Core.List.{List, [], _∷_, List·Memᴰ}
-use mathlib.Core.Logic.{_⊎_, inl, inr, ⊎-elim}
+use mathlib.Core.Logic.{_⊎_, inl, inr}
 use lib.ListN.{length, getD, take, drop}
 use lib.Seq.{getD-take, getD-drop}
 use lib.Dec.{eqb, leb, ltb}
-use borrow.Author.Tests.{eqb-true, leb-true, ltb-true, eq-eqb}
+use borrow.Author.Tests.{eqb-true, leb-true, ltb-true}
 use Rattle.base.specs.Lists.{member}
 use Rattle.base.specs.Bits.{bit}
 use Rattle.base.proofs.Bools.{and-parts, clash}
 use Rattle.base.proofs.Lists.{getD-below}
 use Rattle.sets.proofs.Laws.{same-bits}
 use Rattle.model.specs.Execution as model
-use Rattle.model.specs.Execution.{Kind, isFence, Instruction, Line, noLine, initialByte}
+use Rattle.model.specs.Execution.{isFence, Instruction, Line, noLine, initialByte}
 use Rattle.model.specs.Questions.{question7, question8}
 use Rattle.model.specs.Rules.{accesses, byteWritten}
 use Rattle.model.proofs.Accepted.{Accepted, Sound}

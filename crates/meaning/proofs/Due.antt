@@ -6,18 +6,17 @@ use mathlib.Core.Bool.{Bool, true, false, not, _&&_, _||_, or-false}
 use mathlib.Core.List.{List, [], _∷_, _++_, List·Memᴰ, List·Memᴰ·head, List·Memᴰ·tail, Memᴰ·of-map}
 use lib.Dec.{eqb, ltb}
 use borrow.Author.Tests.{eq-eqb, ne-eqb, lt-ltb, ltb-true, not-true}
-use Rattle.base.specs.Lists.{any, below, member, distinct}
+use Rattle.base.specs.Lists.{any, member, distinct}
 use Rattle.base.specs.Below.{allBelow}
 use Rattle.base.proofs.Bools.{split, clash, is-false, and-parts, and-both, or-right}
-use Rattle.base.proofs.Lists.{any-witness, any-member, in-keep, in-for, in-below, of-below, member-in, in-member, member-append, distinct-append}
+use Rattle.base.proofs.Lists.{any-witness, any-member, in-keep, in-for, in-below, member-in, in-member, member-append, distinct-append}
 use Rattle.base.proofs.Tests.{all-fails, all-below}
 use Rattle.model.specs.Execution as model
-use Rattle.model.specs.Execution.{Instruction, isRelease, RV, numberOf, Operation, stores, operations, allOperations, everyProcessor}
+use Rattle.model.specs.Execution.{Instruction, isRelease, RV, numberOf, stores, operations, everyProcessor}
 use Rattle.model.specs.Rules.{before, inWB, Claim, never, remoteOf, rule12, rules, broken, consistent}
 use Rattle.model.proofs.Accepted.{Accepted}
 use Rattle.model.proofs.Before.{before-stays}
 use Rattle.decoded.specs.Decoded.{executionOf}
-use Rattle.links.specs.Operations.{operationAt, tableOf}
 use Rattle.sets.specs.Set.{holds}
 use Rattle.reduction.specs.Admits.{missing, interrupts}
 use Rattle.reduction.proofs.Pairs.{any-fails}

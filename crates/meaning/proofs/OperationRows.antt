@@ -1,18 +1,17 @@
 -- The rows of the operations of a store, by the store.
-use Prim.Native.Nat.{ℕ, suc, _+_, _-_, _≤_, _<_}
+use Prim.Native.Nat.{ℕ, _+_, _-_, _≤_, _<_}
 use native.Mathlib.Omega.{arith}
-use mathlib.Core.Path.{_≡_, refl, sym, ap, ap₂, _∙_, subst}
+use mathlib.Core.Path.{_≡_, sym, ap, _∙_}
 use mathlib.Core.Bool.{Bool, true, false, cond, _||_, or-true}
 use mathlib.Core.List.{List, List·Memᴰ}
 use lib.ListN.{getD}
-use lib.Dec.{eqb, leb}
+use lib.Dec.{eqb}
 use borrow.Author.Tests.{le-leb}
 use Rattle.model.specs.Execution as model
-use Rattle.model.specs.Execution.{Instruction, Role, LV, RV, numberOf, isStore, stores, operations}
+use Rattle.model.specs.Execution.{Instruction, RV, numberOf, stores, operations}
 use Rattle.model.proofs.Accepted.{Accepted}
-use Rattle.decoded.specs.Kinds.{roleNumbered}
 use Rattle.decoded.specs.Decoded.{instructionAt, executionOf}
-use Rattle.reduction.proofs.Apart.{is-store, LV-in, RV-in, LV-role, RV-role}
+use Rattle.reduction.proofs.Apart.{is-store, RV-in, RV-role}
 use Rattle.admit.specs.Rows.{ownOf, localOf, writes}
 use Rattle.meaning.proofs.Tables.{Tables, Holds}
 use Rattle.meaning.proofs.Owners.{number-RV, owner-is, number-low}

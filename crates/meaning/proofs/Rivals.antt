@@ -1,10 +1,10 @@
 -- Rules 9, 10 and 14: the rivals of an operation that it must wait for are the instructions that refuse it.
-use Prim.Native.Nat.{ℕ, suc, _+_, _-_, _≤_, _<_}
+use Prim.Native.Nat.{ℕ, _+_, _-_, _≤_, _<_}
 use native.Mathlib.Omega.{arith}
 use native.Mathlib.Decide.{ℕ-discrete}
-use mathlib.Core.Path.{_≡_, refl, sym, ap, ap₂, _∙_, subst}
-use mathlib.Core.Bool.{Bool, true, false, not, cond, _&&_, _||_, or-false}
-use mathlib.Core.List.{List, List·Memᴰ}
+use mathlib.Core.Path.{_≡_, refl, sym, ap, _∙_}
+use mathlib.Core.Bool.{Bool, true, false, not, _&&_, _||_, or-false}
+use mathlib.Core.List.{List}
 use lib.ListN.{getD}
 use lib.Dec.{eqb, leb, ltb}
 use borrow.Author.Tests.{eq-eqb, ne-eqb, eqb-true, le-leb, lt-leb, leb-true, leb-false}
@@ -13,7 +13,7 @@ use Rattle.base.specs.Below.{anyBelow}
 use Rattle.base.proofs.Bools.{agree, split, clash, and-parts, and-both}
 use Rattle.base.proofs.Tests.{some-at, any-passes}
 use Rattle.model.specs.Execution as model
-use Rattle.model.specs.Execution.{Kind, Instruction, Role, R, RV, isStore, isLoad, numberOf, stores, operations}
+use Rattle.model.specs.Execution.{Instruction, R, RV, isStore, isLoad, numberOf, stores, operations}
 use Rattle.model.proofs.Accepted.{Accepted}
 use Rattle.decoded.specs.Decoded.{instructionAt, executionOf}
 use Rattle.places.specs.Places.{placed, Placed}
@@ -24,7 +24,7 @@ use Rattle.admit.specs.Rows.{ownOf, localOf, rivals, rivalBy, rivalOf, writes}
 use Rattle.admit.specs.Fits.{Standing, waitsFor, refused}
 use Rattle.reduction.proofs.Apart.{store-processor}
 use Rattle.meaning.proofs.Tables.{Tables, Holds}
-use Rattle.meaning.proofs.Owners.{number-is, role-R, role-RV}
+use Rattle.meaning.proofs.Owners.{number-is, role-RV}
 use Rattle.meaning.proofs.OperationRows.{RV-writes, IsRV, is-RV, own-by, local-by, own-itself, local-itself}
 use Rattle.meaning.proofs.Refusals.{missingBy, storeLost, loadLost, refusesBy, refusedBy}
 use Rattle.meaning.proofs.Demands.{conflict-mark, bypass-mark, store-in, remote-few, load-refusal, store-refusal}

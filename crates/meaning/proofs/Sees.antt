@@ -1,31 +1,29 @@
 -- Rule 11: the words of memory show an R the bytes that the rule has it read.
-use Prim.Native.Nat.{ℕ, suc, _+_, _*_, _-_, _/_, _%_, _≤_, _<_}
+use Prim.Native.Nat.{ℕ, _+_, _*_, _-_, _/_, _%_, _<_}
 use native.Mathlib.Omega.{arith}
 use mathlib.Core.Path.{_≡_, refl, sym, ap, ap₂, _∙_, subst}
 use mathlib.Core.Bool.{Bool, true, false, not, cond, _&&_, _||_}
-use mathlib.Core.List.{List, [], _∷_, _++_, map, List·Memᴰ, List·Memᴰ·head, List·Memᴰ·tail, List·Memᴰ·cases-cons, List·Memᴰ·not-nil, List·Memᴰ·eq-of-singleton, Memᴰ·of-map}
+use mathlib.Core.List.{List, [], _∷_, _++_, map, List·Memᴰ, List·Memᴰ·cases-cons, List·Memᴰ·not-nil, List·Memᴰ·eq-of-singleton, Memᴰ·of-map}
 use mathlib.Core.Logic.{_⊎_, inl, inr, ⊎-elim}
-use lib.ListN.{length, getD, take, drop, length-drop}
+use lib.ListN.{length, getD, drop, length-drop}
 use lib.Seq.{length-take-le}
 use lib.Dec.{eqb, leb, ltb}
-use borrow.Author.Tests.{eq-eqb, ne-eqb, eqb-true, le-leb, leb-true, ltb-true, lt-ltb, not-true}
-use Rattle.base.specs.Lists.{any, keep, when, count, below, member, distinct}
+use borrow.Author.Tests.{eq-eqb, eqb-true, le-leb, leb-true, ltb-true, lt-ltb, not-true}
+use Rattle.base.specs.Lists.{any, keep, count, below, member, distinct}
 use Rattle.base.specs.Below.{allBelow, anyBelow}
 use Rattle.base.specs.Bits.{bit}
 use Rattle.base.proofs.Bools.{agree, split, clash, is-false, and-parts, and-both}
-use Rattle.base.proofs.Lists.{any-witness, any-member, any-map, any-keep, any-for, any-when, in-keep, of-keep, in-for, in-count, of-count}
+use Rattle.base.proofs.Lists.{any-witness, any-member, any-map, any-keep, any-for, any-when, in-keep, of-keep, in-count, of-count}
 use Rattle.base.proofs.Tests.{some-at, any-passes, all-at, all-below}
 use Rattle.model.specs.Execution as model
 use Rattle.model.specs.Execution.{Kind, ld, ld-acq, st, st-rel, mf, Instruction, Role, R, LV, RV, isLoad, isStore, roles, numberOf, stores, loads, operations, initialByte}
 use Rattle.model.specs.Rules.{accesses, addresses, byteWritten, byteSeen, Writer, Sight, sightOf}
 use Rattle.model.proofs.Accepted.{Accepted, Sound}
-use Rattle.decoded.specs.Kinds.{roleNumbered}
 use Rattle.decoded.specs.Decoded.{instructionAt, executionOf}
-use Rattle.links.proofs.CompiledLaws.{owner-there}
 use Rattle.reduction.specs.Admits.{lastByte, missing, byteNow, unseen, sights}
 use Rattle.reduction.proofs.Apart.{each-in, is-store, is-load, R-role, store-processor}
 use Rattle.sets.specs.Set.{holds}
-use Rattle.admit.specs.Rows.{bypasses, bypassOf, writtenBits, localOf, readBits, readData, visibleWord, ownWord, visibleAt, ownAt, covers, dataBit, firstWords, wordsAfter, writes}
+use Rattle.admit.specs.Rows.{bypasses, bypassOf, writtenBits, localOf, readBits, readData, visibleWord, ownWord, visibleAt, ownAt, covers, dataBit, firstWords, wordsAfter}
 use Rattle.admit.specs.Fits.{same, pending, localBit, sees, Standing}
 use Rattle.meaning.proofs.Tables.{Tables, Holds}
 use Rattle.meaning.proofs.Owners.{number-R, role-R, role-in, owner-in, owner-is, number-is, by-number, numbered-in}

@@ -2,30 +2,28 @@
 use Prim.Native.Nat.{ℕ, zero, suc, _+_, _*_, _-_, _/_, _%_, _≤_, _<_}
 use native.Mathlib.Omega.{arith}
 use mathlib.Core.Path.{_≡_, refl, sym, ap, ap₂, _∙_, subst}
-use mathlib.Core.Bool.{Bool, true, false, not, cond, _&&_, _||_}
-use mathlib.Core.List.{List, [], _∷_, map, List·Memᴰ, List·Memᴰ·eq-of-singleton, Memᴰ·of-map}
+use mathlib.Core.Bool.{Bool, true, false, cond, _&&_, _||_}
+use mathlib.Core.List.{List, map, List·Memᴰ, List·Memᴰ·eq-of-singleton, Memᴰ·of-map}
 use lib.ListN.{length, getD}
 use lib.Dec.{eqb, leb}
 use borrow.Author.Tests.{eq-eqb, ne-eqb, eqb-true, leb-true}
-use Rattle.base.specs.Lists.{any, keep, below}
+use Rattle.base.specs.Lists.{any, keep}
 use Rattle.base.specs.Bits.{bit}
 use Rattle.base.proofs.Bools.{agree, split, clash, is-false, and-parts, and-both}
 use Rattle.base.proofs.Lists.{any-witness, any-member, any-map, any-keep, of-keep, in-keep}
 use Rattle.model.specs.Execution as model
-use Rattle.model.specs.Execution.{Kind, ld, ld-acq, st, st-rel, mf, Instruction, Role, R, LV, RV, isStore, roles, numberOf, stores, operations}
-use Rattle.model.specs.Rules.{accesses, byteWritten, byteOf}
+use Rattle.model.specs.Execution.{Kind, ld, ld-acq, st, st-rel, mf, Instruction, Role, LV, RV, isStore, roles, numberOf, stores, operations}
+use Rattle.model.specs.Rules.{accesses, byteWritten}
 use Rattle.model.proofs.Accepted.{Accepted, Sound}
 use Rattle.decoded.specs.Kinds.{roleNumbered}
 use Rattle.decoded.specs.Decoded.{instructionAt, executionOf}
-use Rattle.links.proofs.CompiledLaws.{few-processors, few-lines}
-use Rattle.decoded.proofs.Arrays.{lines-length}
 use Rattle.admit.specs.Rows.{writtenBits, writtenData, writtenWord, visibleAt, ownAt, covers, dataBit, writes}
 use Rattle.reduction.proofs.Apart.{each-in, is-store, LV-role, RV-role}
 use Rattle.meaning.proofs.Tables.{Tables, Holds}
 use Rattle.meaning.proofs.Owners.{number-RV, role-RV, role-in, owner-in, owner-is, number-is}
 use Rattle.meaning.proofs.Demands.{role-few}
 use Rattle.meaning.proofs.OperationRows.{RV-writes}
-use Rattle.meaning.proofs.Bytes.{Within, accesses-within, covers-is, data-is}
+use Rattle.meaning.proofs.Bytes.{accesses-within, covers-is, data-is}
 use Rattle.meaning.proofs.Words.{byte-is, Does}
 
 -- roles by their numbers

@@ -1,9 +1,8 @@
 -- Bytes put into a word one after the other, bit by bit.
-use Prim.Native.Nat.{ℕ, zero, suc, _+_, _*_, _-_, _/_, _%_, _^_, _≤_, _<_}
+use Prim.Native.Nat.{ℕ, suc, _+_, _*_, _-_, _/_, _%_, _^_, _≤_, _<_}
 use native.Mathlib.Omega.{arith}
-use native.Mathlib.Numerals.{add-one}
 use mathlib.Core.Path.{_≡_, refl, sym, ap, ap₂, _∙_, subst}
-use mathlib.Core.Bool.{Bool, true, false, cond, _&&_, _||_, and-true, or-false}
+use mathlib.Core.Bool.{Bool, true, false, _&&_, _||_, or-false}
 use mathlib.Core.List.{List}
 use mathlib.Core.Logic.{⊎-elim}
 use native.Mathlib.Nat.{mul-assoc}
@@ -11,10 +10,10 @@ use lib.ListN.{length, getD, List·getD-eq-default}
 use lib.Bits.{bitOr, shifted-even}
 use lib.Pow.{pow-add, shl-exact, shl-shr, shr-shr}
 use lib.Dec.{eqb, leb, ltb}
-use borrow.Author.Tests.{eq-eqb, ne-eqb, eqb-true, eqb-false, le-leb, lt-leb, leb-true, leb-false, lt-ltb, le-ltb, ltb-true, ltb-false}
+use borrow.Author.Tests.{ne-eqb, eqb-true, eqb-false, le-leb, leb-true, lt-ltb, le-ltb, ltb-true}
 use Rattle.base.specs.Below.{allBelow}
 use Rattle.base.specs.Bits.{bit}
-use Rattle.base.proofs.Bools.{agree, split, clash, and-parts, and-both}
+use Rattle.base.proofs.Bools.{agree, split}
 use Rattle.base.proofs.Tests.{all-at}
 use Rattle.model.specs.Rules.{accesses}
 use Rattle.decoded.specs.declared.types.Execution.{Execution}

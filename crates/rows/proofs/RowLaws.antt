@@ -1,12 +1,12 @@
 -- The seventeen words of a row are what they should be.
 use Prim.Native.Nat.{ℕ, _+_, _*_, _-_, _/_, _%_, _≤_, _<_}
 use native.Mathlib.Omega.{arith}
-use mathlib.Core.Path.{_≡_, refl, sym, ap, ap₂, _∙_, subst}
+use mathlib.Core.Path.{_≡_, sym, ap, ap₂, _∙_}
 use mathlib.Core.Bool.{Bool, true, false, cond, _&&_, _||_}
-use mathlib.Core.List.{List, [], _∷_}
+use mathlib.Core.List.{List, []}
 use lib.ListN.{length, getD}
 use lib.Dec.{eqb, leb, ltb}
-use borrow.Author.Tests.{eq-eqb, ne-eqb, le-leb, lt-leb}
+use borrow.Author.Tests.{eq-eqb, ne-eqb, lt-leb}
 use Rattle.base.specs.Below.{anyBelow}
 use Rattle.base.specs.Bits.{bit}
 use Rattle.base.proofs.Bools.{clash}
@@ -23,10 +23,10 @@ use Rattle.reduction.proofs.Apart.{each-in}
 use Rattle.sets.specs.Set.{holds}
 use Rattle.sets.proofs.Laws.{zero-has}
 use Rattle.admit.specs.Rows.{writes, visibleAt, ownAt, covers, dataBit, rivalOf, bypassOf, RowOf}
-use Rattle.constraints.specs.Rows.{linkedAt, partnerAt}
+use Rattle.links.specs.Linked.{linkedAt}
+use Rattle.constraints.specs.Rows.{partnerAt}
 use Rattle.constraints.proofs.LinkedLaws.{preds-mean}
 use Rattle.constraints.proofs.PartnerLaws.{partner-means}
-use Rattle.meaning.proofs.Tables.{Tables}
 use Rattle.meaning.proofs.Owners.{numbered-in}
 use Rattle.meaning.proofs.Bytes.{fits-line}
 
@@ -80,7 +80,7 @@ module _ {x : Execution} {t : Operations} {marks : List (List ℕ)} (h : Compile
 
   pub row-is : (row : ℕ → ℕ) (w first processor line : ℕ) → w ≡ owner → first ≡ getD (x .instructions .firsts) w 0 → processor ≡ getD (x .instructions .processors) w 0
       → line ≡ getD (x .instructions .addresses) w 0 / 8
-      → ((a : ℕ) → holds (row 0) (row 1) a ≡ (ltb a (t .count) && linkedAt (x .instructions) t marks o a))
+      → ((a : ℕ) → holds (row 0) (row 1) a ≡ (ltb a (t .count) && linkedAt (x .instructions) t marks a o))
       → ((a : ℕ) → holds (row 2) (row 3) a ≡ partnerAt x t marks o a)
       → ((a : ℕ) → a < 128 → holds (row 4) (row 5) a ≡ anyBelow (x .instructions .count) (λ v. rivalOf x t marks o v a))
       → ((a : ℕ) → a < 128 → holds (row 6) (row 7) a ≡ anyBelow (x .instructions .count) (λ v. bypassOf x t marks o v a))

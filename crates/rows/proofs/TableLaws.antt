@@ -3,14 +3,12 @@ use Prim.Native.Nat.{ℕ, _+_, _*_, _-_, _/_, _%_, _≤_, _<_}
 use native.Mathlib.Omega.{arith}
 use native.Mathlib.Decide.{ℕ-discrete, decLt}
 use mathlib.Core.Path.{_≡_, refl, sym, ap, ap₂, _∙_, subst}
-use mathlib.Core.Bool.{true}
 use mathlib.Core.List.{List}
 use mathlib.Core.Logic.{_⊎_, inl, inr, ⊎-elim}
-use lib.ListN.{length, getD, set, take, drop, length-set}
+use lib.ListN.{length, getD, set, drop, length-set}
 use lib.Seq.{getD-set-same, getD-set-other, getD-take, getD-drop}
 use Rattle.base.specs.Bits.{bit}
 use Rattle.model.specs.Execution.{operations}
-use Rattle.model.proofs.Accepted.{Accepted}
 use Rattle.decoded.specs.declared.types.Execution.{Execution}
 use Rattle.decoded.specs.Decoded.{executionOf}
 use Rattle.links.specs.declared.operations.Operations.{Operations}

@@ -1,6 +1,6 @@
 // All rows, and behind them the words of memory before any operation.
 ghost use mathlib.Core.Path.{_≡_};
-ghost use Prim.Native.Nat.{ℕ, _*_, _<_, _≤_};
+ghost use Prim.Native.Nat.{_*_, _<_};
 ghost use lib.ListN.{length};
 ghost use Rattle.model.proofs.Accepted.{Accepted};
 ghost use Rattle.decoded.specs.Decoded.{executionOf};

@@ -1,19 +1,18 @@
 -- The search after the record's questions is the search; its ways out.
-use Prim.Native.Nat.{ℕ, suc, _+_, _≤_, _<_}
+use Prim.Native.Nat.{ℕ, _+_, _≤_, _<_}
 use native.Mathlib.Omega.{arith}
 use mathlib.Core.Path.{_≡_, refl, sym, ap, ap₂, _∙_, subst}
-use mathlib.Core.Bool.{Bool, true, false, not, cond, _||_}
-use mathlib.Core.List.{List, [], _∷_, _++_}
-use mathlib.Core.Option.{Option, some}
-use lib.ListN.{length, take, drop, take-append-drop}
+use mathlib.Core.Bool.{Bool, true, false, cond}
+use mathlib.Core.List.{List, [], _++_}
+use lib.ListN.{length, take, drop}
 use lib.Seq.{paste, length-take-le}
 use lib.Dec.{leb}
 use borrow.Author.Tests.{le-leb, lt-leb}
-use Rattle.base.specs.Lists.{any, distinct}
+use Rattle.base.specs.Lists.{distinct}
 use Rattle.model.specs.Execution.{Execution, operationCount, operations}
 use Rattle.model.specs.Questions.{Found, Reader, next, ask, pure}
-use Rattle.model.specs.Rules.{Claim, rules, broken, keeps, consistent, lowestFrom, lowestBroken}
-use Rattle.model.specs.Search.{Outcome, searchFrom, allowed}
+use Rattle.model.specs.Rules.{rules, keeps, consistent}
+use Rattle.model.specs.Search.{Outcome, searchFrom}
 use Rattle.model.specs.Calls as calls
 use Rattle.model.specs.Calls.{says, refuses, answerOf, readAll, searching, searchReply, searchCall}
 use Rattle.model.proofs.Accepted.{Accepted, read-found, read-refused}
@@ -31,7 +30,6 @@ use Rattle.search.specs.declared.drive.Outcome as driven
 use Rattle.search.specs.Positions.{positionOf}
 use Rattle.search.specs.Replies.{outcomeOf, verdictMeant}
 use Rattle.search.specs.Calls.{answerMeant, replyOf, checked, searched}
-use Rattle.search.proofs.Onward.{onward-done}
 
 module _ (buffer : List ℕ) (saved allowance : ℕ) where
   -- what follows the record's questions

@@ -6,13 +6,12 @@ use mathlib.Core.Path.{_≡_, refl, sym, ap, ap₂, _∙_, subst}
 use mathlib.Core.Bool.{Bool, true, false, not, cond, _&&_, _||_}
 use mathlib.Core.List.{List, [], _∷_, _++_}
 use lib.ListN.{length, getD, set, take, drop, replicate, length-set, take-append-drop}
-use lib.Seq.{set-getD, take-suc, take-take, length-take-le}
+use lib.Seq.{set-getD, take-suc, take-take}
 use lib.Dec.{eqb, ltb}
 use borrow.Author.Tests.{not-true, not-false}
 use Rattle.base.specs.Lists.{member, distinct}
-use Rattle.base.proofs.Bools.{split, clash, is-false, and-parts}
+use Rattle.base.proofs.Bools.{clash, is-false}
 use Rattle.base.proofs.Lists.{distinct-first}
-use Rattle.places.specs.Places.{Placed}
 use Rattle.places.proofs.PlaceLaws.{placing-none, placed-none}
 use Rattle.sets.specs.Set.{holds, setAt}
 use Rattle.sets.proofs.Laws.{zero-has}

@@ -17,7 +17,7 @@ use Rattle.base.proofs.Bools.{split, and-parts}
 use Rattle.base.proofs.Lex.{less-transitive, less-extension, less-fork}
 use Rattle.places.specs.Places.{placed, Placed}
 use Rattle.places.proofs.PlaceLaws.{placed-there, member-placed, placed-absent}
-use Rattle.sets.specs.Set.{holds, Lowest}
+use Rattle.sets.specs.Set.{holds}
 use Rattle.sets.specs.declared.Set.{Set}
 use Rattle.admit.specs.Rows.{writtenWord, wordsWith, wordsAfter}
 use Rattle.admit.specs.Fits.{dueOf, fitsBy, Standing, Tested}

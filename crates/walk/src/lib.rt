@@ -1,6 +1,6 @@
 // The walk: from a consistent prefix that is not full to the next one in lexicographic order.
 ghost use mathlib.Core.Path.{_≡_};
-ghost use Prim.Native.Nat.{ℕ, _<_, _≤_};
+ghost use Prim.Native.Nat.{_<_, _≤_};
 ghost use lib.ListN as ListN;
 ghost use lib.ListN.{length, getD, set, take};
 ghost use Rattle.admit.specs.Rows.{writtenWord, wordsWith};

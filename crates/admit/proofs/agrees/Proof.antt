@@ -1,7 +1,6 @@
 -- Bit by bit.
 use native.Mathlib.Omega.{arith}
 use Rattle.admit.proofs.TestLaws.{agrees-is}
-use borrow.Author.Needs.{needs}
 use Rattle.admit.proofs.agrees.Statement.{statement}
 use Rattle.admit.proofs.agrees.Tie as tie
 

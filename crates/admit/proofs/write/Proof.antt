@@ -1,8 +1,7 @@
 -- The word that was there, and the word with the bits written anew.
 use mathlib.Core.Path.{ap}
 use Prim.Native.Nat.{ℕ, _%_}
-use lib.ListN.{getD, set}
-use Rattle.admit.specs.Rows.{merged}
+use lib.ListN.{getD}
 use Rattle.admit.proofs.TestLaws.{written}
 use borrow.Author.Needs.{needs}
 use Rattle.admit.proofs.write.Statement.{statement}

@@ -1,6 +1,6 @@
 -- A store, of the processor, to the line.
 use mathlib.Core.Path.{ap, ap₂, _∙_}
-use mathlib.Core.Bool.{Bool, _&&_}
+use mathlib.Core.Bool.{_&&_}
 use Rattle.model.specs.Execution.{isStore}
 use borrow.Author.Needs.{needs}
 use Rattle.constraints.proofs.is_beside.Statement.{statement}

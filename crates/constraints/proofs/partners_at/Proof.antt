@@ -6,7 +6,7 @@ use lib.ListN.{getD}
 use borrow.Author.Tests.{not-false}
 use Rattle.links.proofs.CompiledLaws.{few-processors}
 use Rattle.constraints.proofs.SetLaws.{holds-none}
-use Rattle.constraints.proofs.LinkedLaws.{owner-few}
+use Rattle.links.proofs.LinkedLaws.{owner-few}
 use Rattle.constraints.proofs.PartnerLaws.{no-remote, mark-read, no-atomic, atomic-remotes, remotes-fit}
 use borrow.Author.Needs.{needs}
 use Rattle.constraints.proofs.partners_at.Statement.{statement}

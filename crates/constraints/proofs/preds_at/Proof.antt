@@ -7,7 +7,7 @@ use lib.ListN.{getD}
 use lib.Dec.{ltb}
 use Rattle.decoded.specs.Kinds.{roleNumbered}
 use Rattle.marks.specs.Marks.{markAt}
-use Rattle.constraints.specs.Rows.{linkedBy, linkedAt}
+use Rattle.links.specs.Linked.{linkedBy, linkedAt}
 use Rattle.constraints.proofs.SetLaws.{Gathered, gathers, gathers-on, gathered}
 use borrow.Author.Needs.{needs}
 use Rattle.constraints.proofs.preds_at.Statement.{statement}

@@ -1,8 +1,8 @@
 -- Each turn takes in what one instruction adds.
-use Prim.Native.Nat.{ℕ, _-_, _<_}
+use Prim.Native.Nat.{ℕ, _-_}
 use native.Mathlib.Omega.{arith}
-use mathlib.Core.Path.{_≡_, refl, ap, ap₂, _∙_}
-use mathlib.Core.Bool.{Bool, _||_}
+use mathlib.Core.Path.{ap, ap₂, _∙_}
+use mathlib.Core.Bool.{_||_}
 use lib.ListN.{getD}
 use Rattle.base.specs.Below.{anyBelow}
 use Rattle.sets.specs.Set.{holds}

@@ -1,5 +1,4 @@
 -- Not wanted, too far, and put in.
-use native.Mathlib.Omega.{arith}
 use Rattle.constraints.proofs.SetLaws.{not-wanted, too-far, put-in}
 use borrow.Author.Needs.{needs}
 use Rattle.constraints.proofs.with_operation.Statement.{statement}

@@ -1,5 +1,5 @@
 -- Three entries, and the word that was there.
-use mathlib.Core.Path.{refl, ap, _∙_}
+use mathlib.Core.Path.{refl, ap}
 use lib.ListN.{set}
 use borrow.Author.Needs.{needs}
 use Rattle.walk.proofs.add_entry.Statement.{statement}

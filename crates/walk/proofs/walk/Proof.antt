@@ -1,9 +1,9 @@
 -- Each turn refuses a candidate or takes an entry away; the first candidate that is due and fits is the answer.
 use Prim.Native.Nat.{_*_, _-_}
 use native.Mathlib.Omega.{arith}
-use mathlib.Core.Path.{_≡_, refl, ap, _∙_}
+use mathlib.Core.Path.{refl, _∙_}
 use mathlib.Core.Logic.{inl, inr, ⊎-elim}
-use lib.ListN.{length, getD, set, take}
+use lib.ListN.{length, getD, take}
 use Rattle.walk.proofs.Search.{Search, square, due-is, search-starts, search-to, search-on, search-up, last-below, search-ends, search-spent, search-found, search-same}
 use borrow.Author.Needs.{needs}
 use Rattle.walk.proofs.walk.Statement.{statement}

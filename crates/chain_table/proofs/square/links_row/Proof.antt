@@ -6,7 +6,8 @@ use lib.Dec.{eqb}
 use Rattle.base.proofs.Entries.{Entered, entered-none, entered-more}
 use Rattle.decoded.specs.Kinds.{roleNumbered}
 use Rattle.marks.specs.Marks.{markAt}
-use Rattle.chain_table.specs.Squares.{markOf, linkedBy, linkedIn}
+use Rattle.links.specs.Linked.{linkedBy, linkedAt}
+use Rattle.chain_table.specs.Squares.{markOf}
 use Rattle.chain_table.proofs.SquareLaws.{marks-as}
 use native.Mathlib.Omega.{arith}
 use borrow.Author.Needs.{needs}
@@ -82,7 +83,7 @@ loop-again c =
     )
 
 returns : tie.Need-returns Inv-loop μ-loop
-unfolding linkedIn
+unfolding linkedAt
 returns c = λ j h.
     let at = c .before .before .before .before .before .before .args in
     c .before .loop .inv .1 .holds j (omega (arith, h, c .loop-test .left))

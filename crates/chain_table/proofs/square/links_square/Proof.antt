@@ -5,14 +5,14 @@ use mathlib.Core.List.{[]}
 use lib.ListN.{getD}
 use lib.Dec.{eqb}
 use Rattle.base.proofs.Entries.{Entered, entered-none, entered-more}
-use Rattle.chain_table.specs.Squares.{linkedIn}
+use Rattle.links.specs.Linked.{linkedAt}
 use native.Mathlib.Omega.{arith}
 use borrow.Author.Needs.{needs}
 use Rattle.chain_table.proofs.square.links_square.Statement.{statement}
 use Rattle.chain_table.proofs.square.links_square.Tie as tie
 
 abbrev Inv-loop : tie.InvT-loop
-Inv-loop is t marks n square₀ a₀ square a = (a ≤ n) × Entered 128 [] (λ i row. (b : ℕ) → b < n → eqb (getD row b 0) 1 ≡ linkedIn is t marks i b) a square
+Inv-loop is t marks n square₀ a₀ square a = (a ≤ n) × Entered 128 [] (λ i row. (b : ℕ) → b < n → eqb (getD row b 0) 1 ≡ linkedAt is t marks i b) a square
 
 abbrev μ-loop : tie.MeasureT-loop
 μ-loop is t marks n square₀ a₀ square a = n - a

@@ -1,6 +1,6 @@
 -- By the place of the address in its line.
 use native.Mathlib.Omega.{arith}
-use mathlib.Core.Path.{ap₂, _∙_}
+use mathlib.Core.Path.{_∙_}
 use Rattle.rows.proofs.LineLaws.{covers-by}
 use borrow.Author.Needs.{needs}
 use Rattle.rows.proofs.line.access_bits.Statement.{statement}

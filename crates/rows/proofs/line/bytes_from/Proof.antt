@@ -1,7 +1,7 @@
 -- Each turn puts in one byte.
 use Prim.Native.Nat.{ℕ, _+_, _-_, _/_, _%_}
 use native.Mathlib.Omega.{arith}
-use mathlib.Core.Path.{sym, ap, _∙_}
+use mathlib.Core.Path.{ap}
 use lib.ListN.{getD}
 use Rattle.base.specs.Bits.{bit}
 use Rattle.rows.proofs.LineLaws.{Laid, laid-none, laid-more, laid}

@@ -1,9 +1,7 @@
 -- Each turn looks at one byte; past the end there is 0.
 use Prim.Native.Nat.{ℕ, _-_, _<_, _≤_}
 use native.Mathlib.Omega.{arith}
-use native.Mathlib.Decide.{decLt}
-use mathlib.Core.Path.{_≡_, ap, _∙_}
-use lib.ListN.{length, getD}
+use lib.ListN.{getD}
 use Rattle.rows.proofs.LineLaws.{known-more, known-all}
 use borrow.Author.Needs.{needs}
 use Rattle.rows.proofs.line.known_bytes.Statement.{statement}

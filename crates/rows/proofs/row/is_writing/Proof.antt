@@ -1,6 +1,5 @@
 -- An LV, or an RV.
 use Rattle.rows.proofs.RowLaws.{writing-LV, writing-by}
-use borrow.Author.Needs.{needs}
 use Rattle.rows.proofs.row.is_writing.Statement.{statement}
 use Rattle.rows.proofs.row.is_writing.Tie as tie
 

@@ -2,7 +2,7 @@
 use native.Mathlib.Omega.{arith}
 use mathlib.Core.Path.{refl}
 use Rattle.links.proofs.CompiledLaws.{few-instructions}
-use Rattle.constraints.proofs.LinkedLaws.{few-listed, owner-few}
+use Rattle.links.proofs.LinkedLaws.{few-listed, owner-few}
 use Rattle.rows.proofs.RowLaws.{owner-fits, row-is}
 use borrow.Author.Needs.{needs}
 use Rattle.rows.proofs.row.row_of.Statement.{statement}

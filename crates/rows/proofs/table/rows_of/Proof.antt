@@ -1,7 +1,6 @@
 -- Each turn puts in the row of one operation.
 use Prim.Native.Nat.{_-_}
 use native.Mathlib.Omega.{arith}
-use mathlib.Core.Path.{refl}
 use Rattle.rows.proofs.TableLaws.{Filled, filled-none, filled-more, filled}
 use borrow.Author.Needs.{needs}
 use Rattle.rows.proofs.table.rows_of.Statement.{statement}

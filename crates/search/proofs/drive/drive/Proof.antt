@@ -1,6 +1,6 @@
 -- The position is made again; what follows depends on whether it is consistent and whether it is full.
 use native.Mathlib.Omega.{arith}
-use mathlib.Core.Path.{refl, sym, ap, _∙_}
+use mathlib.Core.Path.{refl, ap, _∙_}
 use lib.ListN as ListN
 use borrow.Author.Tests.{not-false}
 use Rattle.search.proofs.ReplayLaws.{kept-none}

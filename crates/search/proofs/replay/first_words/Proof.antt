@@ -1,8 +1,8 @@
 -- Each turn copies one word.
-use Prim.Native.Nat.{ℕ, _+_, _-_, _≤_}
+use Prim.Native.Nat.{ℕ, _-_, _≤_}
 use native.Mathlib.Omega.{arith}
 use mathlib.Core.Path.{_≡_, refl, sym, ap, _∙_}
-use lib.ListN.{length, getD, take, drop, length-drop}
+use lib.ListN.{getD, take, drop, length-drop}
 use lib.Seq.{getD-drop, take-all}
 use Rattle.base.proofs.Entries.{Entered, entered-none, entered-more, entered-copy}
 use borrow.Author.Needs.{needs}

@@ -1,7 +1,7 @@
 -- Each turn tests one entry and makes what is kept of one more.
 use Prim.Native.Nat.{_-_}
 use native.Mathlib.Omega.{arith}
-use mathlib.Core.Path.{refl, _∙_}
+use mathlib.Core.Path.{refl}
 use Rattle.search.proofs.ReplayLaws.{Replaying, replay-done, entry-low, replay-not-due, replay-unfit, replay-more}
 use mathlib.Core.Path.{ap}
 use lib.ListN.{length}

@@ -2,10 +2,10 @@
 use native.Mathlib.Omega.{arith}
 use mathlib.Core.Path.{sym, _∙_}
 use Rattle.decoded.specs.Kinds.{roleNumbered}
-use Rattle.constraints.proofs.LinkedLaws.{rule-links, last-rule, no-mark, from-remote}
+use Rattle.links.proofs.LinkedLaws.{rule-links, last-rule, no-mark, from-remote}
 use borrow.Author.Needs.{needs}
-use Rattle.constraints.proofs.is_linked.Statement.{statement}
-use Rattle.constraints.proofs.is_linked.Tie as tie
+use Rattle.links.proofs.link.is_linked.Statement.{statement}
+use Rattle.links.proofs.link.is_linked.Tie as tie
 
 returns : tie.Need-returns
 returns c =
