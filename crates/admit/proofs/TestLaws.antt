@@ -12,24 +12,25 @@ use Rattle.base.specs.Below.{allBelow, anyBelow}
 use Rattle.base.specs.Bits.{bit}
 use Rattle.base.proofs.Bools.{agree, and-both, kept}
 use Rattle.base.proofs.Tests.{all-at, all-below, all-same, any-passes, any-below-same}
+use Rattle.places.specs.Places.{beforeBy}
 use Rattle.sets.specs.Set.{holds}
 use Rattle.sets.proofs.Bit.{has-and, has-or}
 use Rattle.sets.proofs.Laws.{has-minus, has-xor, zero-has, bits-zero}
 use Rattle.sets.proofs.Members.{Over}
 use Rattle.admit.specs.Rows.{field, rivals, bypasses, writtenBits, readBits, readData, visibleWord, ownWord, ownOf, localOf, merged, wordsWith}
-use Rattle.admit.specs.Fits.{same, earlierBy, waitsFor, refused, pending, localBit, sees, fitsBy}
+use Rattle.admit.specs.Fits.{same, waitsFor, refused, pending, localBit, sees, fitsBy}
 
 -- the ways out of the test of one rival
 module _ (rows places : List ℕ) (x m : ℕ) {own-m own-x : ℕ} (is-m : own-m ≡ ownOf rows m) (is-x : own-x ≡ ownOf rows x) {r : Bool}
-    (tells : r ≡ earlierBy rows places own-m own-x) where
+    (tells : r ≡ beforeBy places own-m own-x) where
   abbrev first : Bool
-  first = earlierBy rows places (ownOf rows m) (ownOf rows x)
+  first = beforeBy places (ownOf rows m) (ownOf rows x)
 
   abbrev locals : Bool
-  locals = earlierBy rows places (localOf rows m) (localOf rows x)
+  locals = beforeBy places (localOf rows m) (localOf rows x)
 
   first-is : r ≡ first
-  first-is = tells ∙ ap₂ (earlierBy rows places) is-m is-x
+  first-is = tells ∙ ap₂ (beforeBy places) is-m is-x
 
   pub waits-first : r ≡ true → true ≡ waitsFor rows places x m
   unfolding waitsFor
@@ -50,13 +51,13 @@ module _ (rows places : List ℕ) (x m : ℕ) {own-m own-x : ℕ} (is-m : own-m 
       go false false d p q = refl
 
   pub waits-last : r ≡ false → own-m ≡ m → own-x ≡ x → {local-m local-x : ℕ} → local-m ≡ localOf rows m → local-x ≡ localOf rows x
-      → {s : Bool} → s ≡ earlierBy rows places local-m local-x → s ≡ waitsFor rows places x m
+      → {s : Bool} → s ≡ beforeBy places local-m local-x → s ≡ waitsFor rows places x m
   unfolding waitsFor
   waits-last h o n lm lx {s} f =
       go first (eqb (ownOf rows m) m) (eqb (ownOf rows x) x) (sym first-is ∙ h) (eq-eqb (ownOf rows m) m (sym is-m ∙ o)) (eq-eqb (ownOf rows x) x (sym is-x ∙ n))
     where
       go : (a b d : Bool) → a ≡ false → b ≡ true → d ≡ true → s ≡ (a || b && (d && locals))
-      go a b d p q t = rw (p, q, t) (f ∙ ap₂ (earlierBy rows places) lm lx)
+      go a b d p q t = rw (p, q, t) (f ∙ ap₂ (beforeBy places) lm lx)
 
 -- what is left of a set without those that stand
 pub missing-is : (rows : List ℕ) (f x lo hi slo shi mlo mhi : ℕ) → slo ≡ field rows f x → shi ≡ field rows (f + 1) x

@@ -8,7 +8,7 @@ use lib.Dec.{eqb, ltb}
 use Rattle.base.specs.Lists.{member}
 use Rattle.base.specs.Below.{allBelow, anyBelow}
 use Rattle.base.specs.Bits.{bit}
-use Rattle.places.specs.Places.{placed, Placed}
+use Rattle.places.specs.Places.{beforeBy, Placed}
 use Rattle.sets.specs.Set.{holds}
 use Rattle.admit.specs.Rows.{precedes, partnerBy, rivals, bypasses, writtenBits, readBits, readData, visibleWord, ownWord, ownOf, localOf, wordsAfter}
 
@@ -31,16 +31,12 @@ same true b = b
 same false b = not b
 
 module _ (rows places : List ℕ) where
-  -- a stands, and b stands later or not at all
-  abbrev pub earlierBy : ℕ → ℕ → Bool
-  earlierBy a b = ltb (placed places a) (placed places b)
-
   -- Operation x must wait for m, which does not stand. Rule 10: the own RV of m's store stands before that of x's. Rules 9 and 14: both are own RVs, or
   -- x is an R, and the LV of m's store stands before that of x's store or before the R.
   unfoldable pub waitsFor : ℕ → ℕ → Bool
   waitsFor x m =
-      earlierBy (ownOf rows m) (ownOf rows x)
-      || eqb (ownOf rows m) m && (eqb (ownOf rows x) x && earlierBy (localOf rows m) (localOf rows x))
+      beforeBy places (ownOf rows m) (ownOf rows x)
+      || eqb (ownOf rows m) m && (eqb (ownOf rows x) x && beforeBy places (localOf rows m) (localOf rows x))
 
   -- rules 9, 10 and 14, behind what stands
   unfoldable pub refused : ℕ → ℕ → ℕ → Bool

@@ -4,8 +4,8 @@ use native.Mathlib.Omega.{arith}
 use native.Mathlib.Decide.{ℕ-discrete}
 use mathlib.Core.Path.{_≡_, refl, sym, ap, ap₂, _∙_, subst}
 use mathlib.Core.Bool.{Bool, true, false, not, cond, _&&_, _||_, and-true, and-false, and-assoc, or-true, or-false, or-assoc, false≢true}
-use mathlib.Core.List.{List, [], _∷_, _++_, append-nil, append-assoc, map, map-append, List·Memᴰ, List·Memᴰ·head, List·Memᴰ·tail, List·Memᴰ·not-nil, List·Memᴰ·append-cases, Memᴰ·append-left, Memᴰ·append-right}
-use mathlib.Core.Logic.{_⊎_, inl, inr}
+use mathlib.Core.List.{List, [], _∷_, _++_, append-nil, append-assoc, map, map-append, List·Memᴰ, List·Memᴰ·head, List·Memᴰ·tail, List·Memᴰ·not-nil, List·Memᴰ·append-cases, Memᴰ·append-left, Memᴰ·append-right, List·Memᴰ·cases-cons}
+use mathlib.Core.Logic.{_⊎_, inl, inr, ⊎-elim}
 use lib.Dec.{eqb, ltb}
 use lib.ListN.{length, getD}
 use lib.Seq.{append-snoc}
@@ -357,3 +357,43 @@ distinct-first n passed [] ys h = refl
 distinct-first n passed (x ∷ xs) ys h =
     let (h1, h2) = and-parts (ltb x n && not (member passed x)) (distinct n (passed ++ (x ∷ [])) (xs ++ ys)) h in
     rw h1 (distinct-first n (passed ++ (x ∷ [])) xs ys h2)
+
+-- lists kept and mapped one after the other
+module _ {A : Type 0} where
+  pub keep-keep : (p q : A → Bool) (l : List A) → keep p (keep q l) ≡ keep (λ a. q a && p a) l
+  unfolding keep
+  keep-keep p q [] = refl
+  keep-keep p q (a ∷ l) = go (q a) (keep-keep p q l)
+    where
+      go : (b : Bool) → keep p (keep q l) ≡ keep (λ a. q a && p a) l
+          → keep p (cond b (a ∷ keep q l) (keep q l)) ≡ cond (b && p a) (a ∷ keep (λ a. q a && p a) l) (keep (λ a. q a && p a) l)
+      go true e = rw e
+      go false e = e
+
+  pub keep-same : (p q : A → Bool) → ((a : A) → p a ≡ q a) → (l : List A) → keep p l ≡ keep q l
+  unfolding keep
+  keep-same p q f [] = refl
+  keep-same p q f (a ∷ l) = rw (f a, keep-same p q f l)
+
+pub keep-map : {A B : Type 0} (p : B → Bool) (f : A → B) (l : List A) → keep p (map f l) ≡ map f (keep (λ a. p (f a)) l)
+unfolding keep
+keep-map p f [] = refl
+keep-map {A} {B} p f (a ∷ l) = go (p (f a)) (keep-map p f l)
+  where
+    go : (b : Bool) → keep p (map f l) ≡ map f (keep (λ a. p (f a)) l)
+        → cond b (f a ∷ keep p (map f l)) (keep p (map f l)) ≡ map f (cond b (a ∷ keep (λ a. p (f a)) l) (keep (λ a. p (f a)) l))
+    go true e = rw e
+    go false e = e
+
+pub map-map : {A B C : Type 0} (g : B → C) (f : A → B) (l : List A) → map g (map f l) ≡ map (λ a. g (f a)) l
+map-map g f [] = refl
+map-map g f (a ∷ l) = rw (map-map g f l)
+
+-- each of different numbers below n is below n
+pub distinct-in : (n : ℕ) (passed xs : List ℕ) {o : ℕ} → distinct n passed xs ≡ true → List·Memᴰ o xs → o < n
+unfolding distinct
+distinct-in n passed [] h m = absurd (List·Memᴰ·not-nil m)
+distinct-in n passed (x ∷ xs) {o} h m =
+    let (h1, h2) = and-parts (ltb x n && not (member passed x)) (distinct n (passed ++ (x ∷ [])) xs) h in
+    ⊎-elim (λ (q : o ≡ x). subst (λ (u : ℕ). u < n) (sym q) (ltb-true x n (and-parts (ltb x n) (not (member passed x)) h1 .0)))
+    (λ k. distinct-in n (passed ++ (x ∷ [])) xs h2 k) (List·Memᴰ·cases-cons m)

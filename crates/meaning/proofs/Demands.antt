@@ -20,7 +20,7 @@ use Rattle.model.specs.Rules.{before, overlap, inUC, conflict, RV-own}
 use Rattle.model.proofs.Accepted.{Accepted}
 use Rattle.decoded.specs.Kinds.{roleNumbered}
 use Rattle.decoded.specs.Decoded.{instructionAt, executionOf}
-use Rattle.places.specs.Places.{Placed}
+use Rattle.places.specs.Places.{beforeBy, Placed}
 use Rattle.places.proofs.PlaceLaws.{before-placed, member-placed}
 use Rattle.marks.specs.Marks.{hasMark, markAt, marksOf, marksBetween}
 use Rattle.links.proofs.CompiledLaws.{owner-there}
@@ -29,7 +29,7 @@ use Rattle.reduction.proofs.Settled.{before-absent}
 use Rattle.reduction.proofs.Pairs.{pair-passes, passing-pair}
 use Rattle.reduction.proofs.Apart.{is-store, is-load, R-role, RV-role, store-processor, processor-in, in-processors}
 use Rattle.meaning.proofs.Tables.{Tables, Holds}
-use Rattle.meaning.proofs.Refusals.{earlierBy, missingBy, storeLost, loadLost, refusesBy, refusedBy}
+use Rattle.meaning.proofs.Refusals.{missingBy, storeLost, loadLost, refusesBy, refusedBy}
 use Rattle.meaning.proofs.Owners.{number-R, number-RV, role-R, role-RV, role-in, number-is, owner-is, by-number, numbered-in}
 
 -- an RV of an instruction is to a processor
@@ -71,7 +71,7 @@ module _ {t : Tables} (h : Holds t) (accepted : Accepted (executionOf (t .execut
   missing-at : (a b : ℕ) → a ≡ b → missingBy places a ≡ missing e x xs b
   missing-at a b q = ap not (sym (member-placed p a)) ∙ ap (λ (o : ℕ). not (member xs o)) q
 
-  earlier-at : (a b c d : ℕ) → a ≡ c → b ≡ d → earlierBy places a b ≡ before xs c d
+  earlier-at : (a b c d : ℕ) → a ≡ c → b ≡ d → beforeBy places a b ≡ before xs c d
   earlier-at a b c d q r = sym (before-placed p a b) ∙ ap₂ (before xs) q r
 
   -- the marks of instruction v with the owner of x
@@ -147,8 +147,8 @@ module _ {t : Tables} (h : Holds t) (accepted : Accepted (executionOf (t .execut
       → storeLost places (w .processor) (v .first) (v .processor) (w .first) (w .processor) ≡ true
   unfolding storeLost
   own-lost v w q b m =
-      or-right (earlierBy places (1 + v .first + v .processor) (1 + w .first + w .processor) && missingBy places (1 + v .first + w .processor))
-      (eqb (w .processor) (w .processor) && (eqb (v .processor) (w .processor) && (earlierBy places (v .first) (w .first) && missingBy places (1 + v .first + v .processor))))
+      or-right (beforeBy places (1 + v .first + v .processor) (1 + w .first + w .processor) && missingBy places (1 + v .first + w .processor))
+      (eqb (w .processor) (w .processor) && (eqb (v .processor) (w .processor) && (beforeBy places (v .first) (w .first) && missingBy places (1 + v .first + v .processor))))
       (and-both (eq-eqb (w .processor) (w .processor) refl) (and-both (eq-eqb (v .processor) (w .processor) q)
       (and-both (earlier-at (v .first) (w .first) (v .first) (w .first) refl refl ∙ b) (missing-at (1 + v .first + v .processor) (RV-own v) (omega arith) ∙ m))))
 
@@ -156,7 +156,7 @@ module _ {t : Tables} (h : Holds t) (accepted : Accepted (executionOf (t .execut
       → storeLost places q (v .first) (v .processor) (w .first) (w .processor) ≡ true
   unfolding storeLost
   remote-lost v w q b m =
-      ap (λ (u : Bool). u || (eqb q (w .processor) && (eqb (v .processor) (w .processor) && (earlierBy places (v .first) (w .first) && missingBy places (1 + v .first + v .processor)))))
+      ap (λ (u : Bool). u || (eqb q (w .processor) && (eqb (v .processor) (w .processor) && (beforeBy places (v .first) (w .first) && missingBy places (1 + v .first + v .processor)))))
       (and-both (earlier-at (1 + v .first + v .processor) (1 + w .first + w .processor) (RV-own v) (RV-own w) (omega arith) (omega arith) ∙ b)
       (missing-at (1 + v .first + q) (numberOf v (RV q)) (omega arith) ∙ m))
 
@@ -164,22 +164,22 @@ module _ {t : Tables} (h : Holds t) (accepted : Accepted (executionOf (t .execut
       → ((before xs (RV-own v) (RV-own w) ≡ true) × (missing e x xs (numberOf v (RV q)) ≡ true))
       ⊎ ((q ≡ w .processor) × (eqb (v .processor) (w .processor) ≡ true) × (before xs (numberOf v LV) (numberOf w LV) ≡ true) × (missing e x xs (RV-own v) ≡ true))
   unfolding storeLost
-  lost-parts v w q k = go (or-parts (earlierBy places (1 + v .first + v .processor) (1 + w .first + w .processor) && missingBy places (1 + v .first + q)) _ k)
+  lost-parts v w q k = go (or-parts (beforeBy places (1 + v .first + v .processor) (1 + w .first + w .processor) && missingBy places (1 + v .first + q)) _ k)
     where
-      go : ((earlierBy places (1 + v .first + v .processor) (1 + w .first + w .processor) && missingBy places (1 + v .first + q)) ≡ true)
-          ⊎ ((eqb q (w .processor) && (eqb (v .processor) (w .processor) && (earlierBy places (v .first) (w .first) && missingBy places (1 + v .first + v .processor)))) ≡ true)
+      go : ((beforeBy places (1 + v .first + v .processor) (1 + w .first + w .processor) && missingBy places (1 + v .first + q)) ≡ true)
+          ⊎ ((eqb q (w .processor) && (eqb (v .processor) (w .processor) && (beforeBy places (v .first) (w .first) && missingBy places (1 + v .first + v .processor)))) ≡ true)
           → ((before xs (RV-own v) (RV-own w) ≡ true) × (missing e x xs (numberOf v (RV q)) ≡ true))
           ⊎ ((q ≡ w .processor) × (eqb (v .processor) (w .processor) ≡ true) × (before xs (numberOf v LV) (numberOf w LV) ≡ true) × (missing e x xs (RV-own v) ≡ true))
       go (inl a) =
-          let (b, m) = and-parts (earlierBy places (1 + v .first + v .processor) (1 + w .first + w .processor)) (missingBy places (1 + v .first + q)) a in
+          let (b, m) = and-parts (beforeBy places (1 + v .first + v .processor) (1 + w .first + w .processor)) (missingBy places (1 + v .first + q)) a in
           inl (
             sym (earlier-at (1 + v .first + v .processor) (1 + w .first + w .processor) (RV-own v) (RV-own w) (omega arith) (omega arith)) ∙ b,
             sym (missing-at (1 + v .first + q) (numberOf v (RV q)) (omega arith)) ∙ m,
           )
       go (inr a) =
-          let (a1, a2) = and-parts (eqb q (w .processor)) (eqb (v .processor) (w .processor) && (earlierBy places (v .first) (w .first) && missingBy places (1 + v .first + v .processor))) a in
-          let (a3, a4) = and-parts (eqb (v .processor) (w .processor)) (earlierBy places (v .first) (w .first) && missingBy places (1 + v .first + v .processor)) a2 in
-          let (b, m) = and-parts (earlierBy places (v .first) (w .first)) (missingBy places (1 + v .first + v .processor)) a4 in
+          let (a1, a2) = and-parts (eqb q (w .processor)) (eqb (v .processor) (w .processor) && (beforeBy places (v .first) (w .first) && missingBy places (1 + v .first + v .processor))) a in
+          let (a3, a4) = and-parts (eqb (v .processor) (w .processor)) (beforeBy places (v .first) (w .first) && missingBy places (1 + v .first + v .processor)) a2 in
+          let (b, m) = and-parts (beforeBy places (v .first) (w .first)) (missingBy places (1 + v .first + v .processor)) a4 in
           inr (eqb-true q (w .processor) a1, a3, sym (earlier-at (v .first) (w .first) (v .first) (w .first) refl refl) ∙ b, sym (missing-at (1 + v .first + v .processor) (RV-own v) (omega arith)) ∙ m)
 
   -- rule 9

@@ -6,15 +6,11 @@ use lib.ListN.{getD}
 use lib.Dec.{eqb, leb, ltb}
 use Rattle.base.specs.Below.{anyBelow}
 use Rattle.decoded.specs.declared.types.Instructions.{Instructions}
-use Rattle.places.specs.Places.{placed}
+use Rattle.places.specs.Places.{placed, beforeBy}
 use Rattle.marks.specs.Marks.{hasMark, markAt}
 use Rattle.links.specs.declared.operations.Operations.{Operations}
 
 module _ (places : List ℕ) where
-  -- a stands, and b stands later or not at all
-  abbrev pub earlierBy : ℕ → ℕ → Bool
-  earlierBy a b = ltb (placed places a) (placed places b)
-
   -- a does not stand
   abbrev pub missingBy : ℕ → Bool
   missingBy a = not (ltb (placed places a) 255)
@@ -22,8 +18,8 @@ module _ (places : List ℕ) where
   -- Rule 9 for the own RV of w and rule 10 for its RV to q: where v comes first, its RV must stand. First operations fv and fw, processors pv and pw.
   unfoldable pub storeLost : ℕ → ℕ → ℕ → ℕ → ℕ → Bool
   storeLost q fv pv fw pw =
-      earlierBy (1 + fv + pv) (1 + fw + pw) && missingBy (1 + fv + q)
-      || eqb q pw && (eqb pv pw && (earlierBy fv fw && missingBy (1 + fv + pv)))
+      beforeBy places (1 + fv + pv) (1 + fw + pw) && missingBy (1 + fv + q)
+      || eqb q pw && (eqb pv pw && (beforeBy places fv fw && missingBy (1 + fv + pv)))
 
   -- rule 14 for a load: the LV of v stands, its own RV does not
   unfoldable pub loadLost : ℕ → ℕ → Bool

@@ -3,8 +3,8 @@ use Prim.Native.Nat.{ℕ, _+_, _*_, _-_, _/_, _%_, _<_}
 use native.Mathlib.Omega.{arith}
 use mathlib.Core.Path.{_≡_, refl, sym, ap, ap₂, _∙_, subst}
 use mathlib.Core.Bool.{Bool, true, false, not, cond, _&&_, _||_}
-use mathlib.Core.List.{List, [], _∷_, _++_, map, List·Memᴰ, List·Memᴰ·cases-cons, List·Memᴰ·not-nil, List·Memᴰ·eq-of-singleton, Memᴰ·of-map}
-use mathlib.Core.Logic.{_⊎_, inl, inr, ⊎-elim}
+use mathlib.Core.List.{List, [], map, List·Memᴰ, List·Memᴰ·cases-cons, List·Memᴰ·eq-of-singleton, Memᴰ·of-map}
+use mathlib.Core.Logic.{_⊎_, inl, inr}
 use lib.ListN.{length, getD, drop, length-drop}
 use lib.Seq.{length-take-le}
 use lib.Dec.{eqb, leb, ltb}
@@ -13,7 +13,7 @@ use Rattle.base.specs.Lists.{any, keep, count, below, member, distinct}
 use Rattle.base.specs.Below.{allBelow, anyBelow}
 use Rattle.base.specs.Bits.{bit}
 use Rattle.base.proofs.Bools.{agree, split, clash, is-false, and-parts, and-both}
-use Rattle.base.proofs.Lists.{any-witness, any-member, any-map, any-keep, any-for, any-when, in-keep, of-keep, in-count, of-count}
+use Rattle.base.proofs.Lists.{any-witness, any-member, any-map, any-keep, any-for, any-when, in-keep, of-keep, in-count, of-count, keep-map, map-map, distinct-in}
 use Rattle.base.proofs.Tests.{some-at, any-passes, all-at, all-below}
 use Rattle.model.specs.Execution as model
 use Rattle.model.specs.Execution.{Kind, ld, ld-acq, st, st-rel, mf, Instruction, Role, R, LV, RV, isLoad, isStore, roles, numberOf, stores, loads, operations, initialByte}
@@ -31,29 +31,6 @@ use Rattle.meaning.proofs.OperationRows.{RV-writes, IsRV, is-RV}
 use Rattle.meaning.proofs.Bytes.{Within, same-byte, accesses-within, covers-is, data-is, byte-small, initial-at}
 use Rattle.meaning.proofs.Words.{last-below, words-are}
 use Rattle.meaning.proofs.Sources.{visible-does, own-does}
-
--- each of different operations below n is below n
-distinct-in : (n : ℕ) (passed xs : List ℕ) {o : ℕ} → distinct n passed xs ≡ true → List·Memᴰ o xs → o < n
-unfolding distinct
-distinct-in n passed [] h m = absurd (List·Memᴰ·not-nil m)
-distinct-in n passed (x ∷ xs) {o} h m =
-    let (h1, h2) = and-parts (ltb x n && not (member passed x)) (distinct n (passed ++ (x ∷ [])) xs) h in
-    ⊎-elim (λ (q : o ≡ x). subst (λ (u : ℕ). u < n) (sym q) (ltb-true x n (and-parts (ltb x n) (not (member passed x)) h1 .0)))
-    (λ k. distinct-in n (passed ++ (x ∷ [])) xs h2 k) (List·Memᴰ·cases-cons m)
-
--- lists made one after the other
-map-map : {A B C : Type 0} (f : B → C) (g : A → B) (l : List A) → map f (map g l) ≡ map (λ a. f (g a)) l
-map-map f g [] = refl
-map-map f g (a ∷ l) = ap (λ k. f (g a) ∷ k) (map-map f g l)
-
-keep-map : {A B : Type 0} (p : B → Bool) (g : A → B) (l : List A) → keep p (map g l) ≡ map g (keep (λ a. p (g a)) l)
-unfolding keep
-keep-map p g [] = refl
-keep-map {A} {B} p g (a ∷ l) = go (p (g a)) (keep-map p g l)
-  where
-    go : (b : Bool) → keep p (map g l) ≡ map g (keep (λ u. p (g u)) l) → cond b (g a ∷ keep p (map g l)) (keep p (map g l)) ≡ map g (cond b (a ∷ keep (λ u. p (g u)) l) (keep (λ u. p (g u)) l))
-    go true ih = ap (λ k. g a ∷ k) ih
-    go false ih = ih
 
 -- bits that are the same
 same-true : (a b : Bool) → same a b ≡ true → a ≡ b

@@ -1,7 +1,7 @@
 -- The place of each operation in an order, and the table that holds them.
 use Prim.Native.Nat.{ℕ, suc, _≤_}
 use mathlib.Core.Path.{_≡_}
-use mathlib.Core.Bool.{true, cond}
+use mathlib.Core.Bool.{Bool, true, cond}
 use mathlib.Core.List.{List, [], _∷_}
 use lib.ListN.{length, getD}
 use lib.Dec.{eqb, ltb}
@@ -16,6 +16,10 @@ placeFrom k (x ∷ xs) o = cond (eqb x o) k (placeFrom (suc k) xs o)
 -- what the table says
 unfoldable pub placed : List ℕ → ℕ → ℕ
 placed places o = cond (ltb o 128) (getD places o 0) 255
+
+-- by the table a stands, and b stands later or not at all
+abbrev pub beforeBy : List ℕ → ℕ → ℕ → Bool
+beforeBy places a b = ltb (placed places a) (placed places b)
 
 -- the table holds the places of an order of different operations, of n
 pub record Placed (n : ℕ) (xs places : List ℕ) : Type 0 where

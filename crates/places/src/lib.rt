@@ -1,8 +1,7 @@
 // The places of operations in an order, as a table: which of two operations stands before the other is one comparison.
 ghost use mathlib.Core.Path.{_≡_};
 ghost use Prim.Native.Nat.{_≤_};
-ghost use lib.Dec.{ltb};
-ghost use Rattle.places.specs.Places.{placed, Placement};
+ghost use Rattle.places.specs.Places.{placed, Placement, beforeBy};
 use decoded::types::wide;
 
 // The place of an operation that does not stand.
@@ -27,7 +26,7 @@ pub fn place_of(places: &[u8; 128], operation: usize) -> u8
 
 // Whether operation a stands, and b stands later or not at all.
 pub fn before(places: &[u8; 128], a: usize, b: usize) -> bool
-    ensures { λ r. ⌜ r ≡ ltb (placed (now (places .entry)) a) (placed (now (places .entry)) b) ⌝ }
+    ensures { λ r. ⌜ r ≡ beforeBy (now (places .entry)) a b ⌝ }
 {
     place_of(places, a) < place_of(places, b)
 }

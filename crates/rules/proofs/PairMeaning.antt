@@ -19,11 +19,11 @@ use Rattle.model.specs.Execution.{isLoad, isStore, isRelease, RV, numberOf, sto
 use Rattle.model.specs.Rules.{before, overlap, inWB, inUC, Claim, never, broken, RV-own, conflict, forConflicts, rule9, rule10, remoteOf, rule12, rule14}
 use Rattle.decoded.specs.declared.types.Execution.{Execution}
 use Rattle.decoded.specs.Decoded.{instructionAt, instructionsOf, executionOf}
-use Rattle.places.specs.Places.{Placed}
+use Rattle.places.specs.Places.{Placed, beforeBy}
 use Rattle.places.proofs.PlaceLaws.{before-placed}
 use Rattle.marks.specs.Marks.{hasMark, markAt, marksOf, marksBetween}
 use Rattle.links.specs.declared.operations.Operations.{Operations}
-use Rattle.rules.specs.Tests.{beforeBy, someBefore, ownTurned, remoteTurned, releaseSplitBy, releaseSplit, bypassed, pairBroken, pairsBroken}
+use Rattle.rules.specs.Tests.{someBefore, ownTurned, remoteTurned, releaseSplitBy, releaseSplit, bypassed, pairBroken, pairsBroken}
 use Rattle.links.specs.Compiled.{Compiled}
 
 -- the RVs of a store by number

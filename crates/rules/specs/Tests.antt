@@ -7,24 +7,20 @@ use lib.Dec.{eqb, leb, ltb}
 use Rattle.base.specs.Below.{anyBelow}
 use Rattle.decoded.specs.Kinds.{roleNumbered}
 use Rattle.decoded.specs.declared.types.Instructions.{Instructions}
-use Rattle.places.specs.Places.{placed}
+use Rattle.places.specs.Places.{beforeBy}
 use Rattle.marks.specs.Marks.{hasMark, markAt}
 use Rattle.links.specs.Links.{linkBy}
 
 module _ (places : List ℕ) where
-  -- operation a stands, and b stands later or not at all
-  abbrev pub beforeBy : ℕ → ℕ → Bool
-  beforeBy a b = ltb (placed places a) (placed places b)
-
   -- for some k below n, a + k × s is before b + k × t
   unfoldable pub someBefore : ℕ → ℕ → ℕ → ℕ → ℕ → Bool
-  someBefore n a s b t = anyBelow n (λ k. beforeBy (a + k * s) (b + k * t))
+  someBefore n a s b t = anyBelow n (λ k. beforeBy places (a + k * s) (b + k * t))
 
   -- Two instructions whose first operations are v and w, of processors p and q; with N operations and P processors
 
   -- 9: LV before LV, and not the own RVs
   unfoldable pub ownTurned : ℕ → ℕ → ℕ → ℕ → Bool
-  ownTurned v w p q = eqb p q && (beforeBy v w && beforeBy (1 + w + q) (1 + v + p))
+  ownTurned v w p q = eqb p q && (beforeBy places v w && beforeBy places (1 + w + q) (1 + v + p))
 
   -- 10: some RV before the other's, and some after
   unfoldable pub remoteTurned : ℕ → ℕ → ℕ → Bool
@@ -39,7 +35,7 @@ module _ (places : List ℕ) where
 
   -- 14: LV, then R, then the own RV
   unfoldable pub bypassed : ℕ → ℕ → ℕ → Bool
-  bypassed v w p = beforeBy v w && beforeBy w (1 + v + p)
+  bypassed v w p = beforeBy places v w && beforeBy places w (1 + v + p)
 
   unfoldable pub pairBroken : ℕ → ℕ → ℕ → ℕ → ℕ → ℕ → ℕ → ℕ → Bool
   pairBroken rule m N P v w p q =
@@ -57,7 +53,7 @@ module _ (places : List ℕ) where
   -- operation a, of instruction i, stands against a link of rule 1 to 8 or 13 to operation b
   unfoldable pub standsAgainst : ℕ → List ℕ → List ℕ → List ℕ → List (List ℕ) → ℕ → ℕ → ℕ → Bool
   standsAgainst rule owners roles processors marks i a b =
-      beforeBy b a
+      beforeBy places b a
       && linkBy rule (markAt marks i (getD owners b 0)) (getD processors i 0) (roleNumbered (getD roles a 0)) (roleNumbered (getD roles b 0))
 
   -- some two operations, of n, do

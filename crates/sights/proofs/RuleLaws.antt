@@ -10,7 +10,7 @@ use borrow.Author.Tests.{ltb-true}
 use Rattle.base.specs.Lists.{any, keep, count, below, member}
 use Rattle.base.specs.Below.{anyBelow}
 use Rattle.base.specs.Fold.{fold}
-use Rattle.base.proofs.Lists.{any-append, any-one, any-keep, any-map, any-for, count-more}
+use Rattle.base.proofs.Lists.{any-append, any-one, any-keep, any-map, any-for, count-more, keep-keep, keep-same, keep-map, map-map}
 use Rattle.base.proofs.Tests.{any-numbered, any-below, any-below-same}
 use Rattle.model.specs.Execution as model
 use Rattle.model.specs.Execution.{isLoad, isStore, initialByte, loads, stores}
@@ -25,36 +25,6 @@ use Rattle.sights.specs.Sights.{initialOf, dataByte, writesTo, ownOf, fi
 use Rattle.sights.proofs.LatestLaws.{latest-nothing, latest-more}
 
 -- The stores to a byte, by their numbers
-
-module _ {A : Type 0} where
-  keep-keep : (p q : A → Bool) (l : List A) → keep p (keep q l) ≡ keep (λ a. q a && p a) l
-  unfolding keep
-  keep-keep p q [] = refl
-  keep-keep p q (a ∷ l) = go (q a) (keep-keep p q l)
-    where
-      go : (b : Bool) → keep p (keep q l) ≡ keep (λ a. q a && p a) l
-          → keep p (cond b (a ∷ keep q l) (keep q l)) ≡ cond (b && p a) (a ∷ keep (λ a. q a && p a) l) (keep (λ a. q a && p a) l)
-      go true e = rw e
-      go false e = e
-
-  keep-same : (p q : A → Bool) → ((a : A) → p a ≡ q a) → (l : List A) → keep p l ≡ keep q l
-  unfolding keep
-  keep-same p q f [] = refl
-  keep-same p q f (a ∷ l) = rw (f a, keep-same p q f l)
-
-keep-map : {A B : Type 0} (p : B → Bool) (f : A → B) (l : List A) → keep p (map f l) ≡ map f (keep (λ a. p (f a)) l)
-unfolding keep
-keep-map p f [] = refl
-keep-map {A} {B} p f (a ∷ l) = go (p (f a)) (keep-map p f l)
-  where
-    go : (b : Bool) → keep p (map f l) ≡ map f (keep (λ a. p (f a)) l)
-        → cond b (f a ∷ keep p (map f l)) (keep p (map f l)) ≡ map f (cond b (a ∷ keep (λ a. p (f a)) l) (keep (λ a. p (f a)) l))
-    go true e = rw e
-    go false e = e
-
-map-map : {A B C : Type 0} (g : B → C) (f : A → B) (l : List A) → map g (map f l) ≡ map (λ a. g (f a)) l
-map-map g f [] = refl
-map-map g f (a ∷ l) = rw (map-map g f l)
 
 -- a test of the numbers of `count`
 any-count : (p : ℕ → Bool) (from n : ℕ) → any p (count from n) ≡ anyBelow n (λ k. p (from + k))

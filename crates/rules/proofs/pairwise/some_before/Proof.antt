@@ -2,7 +2,8 @@
 use Prim.Native.Nat.{_+_, _-_, _*_}
 use native.Mathlib.Nat.{mul-le-mul-left}
 use Rattle.base.proofs.Tests.{NoneYet, seeks, passes-by, meets, finds-none}
-use Rattle.rules.specs.Tests.{beforeBy, someBefore}
+use Rattle.places.specs.Places.{beforeBy}
+use Rattle.rules.specs.Tests.{someBefore}
 use native.Mathlib.Omega.{arith}
 use borrow.Author.Needs.{needs}
 use Rattle.rules.proofs.pairwise.some_before.Statement.{statement}
