@@ -1,3 +1,4 @@
+-- The low word from there on, then the high one; where none is left, 128.
 use Prim.Native.Nat.{_-_, _/_, _^_}
 use native.Mathlib.Omega.{arith}
 use lib.Count.{trailing-le}

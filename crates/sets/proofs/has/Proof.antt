@@ -1,3 +1,4 @@
+-- The bit of the low word, or of the high one.
 use mathlib.Core.Path.{sym}
 use native.Mathlib.Omega.{arith}
 use Rattle.sets.proofs.Laws.{holds-low, holds-high}

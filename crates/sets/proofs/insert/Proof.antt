@@ -1,3 +1,4 @@
+-- One bit more in the low word, or in the high one.
 use native.Mathlib.Omega.{arith}
 use Rattle.sets.proofs.Laws.{insert-low, insert-high}
 use borrow.Author.Needs.{needs}

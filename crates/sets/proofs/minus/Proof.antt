@@ -1,3 +1,4 @@
+-- Word by word, and in a word bit by bit.
 use mathlib.Core.Bool.{Bool, not, _&&_}
 use Rattle.sets.proofs.Laws.{holds-two, has-minus}
 use Rattle.sets.proofs.minus.Statement.{statement}

@@ -1,3 +1,4 @@
+-- The low words decide, or the high ones.
 use native.Mathlib.Omega.{arith}
 use Rattle.sets.proofs.Laws.{subset-miss, subset-hit}
 use borrow.Author.Needs.{needs}
