@@ -4,7 +4,6 @@ use Rattle.sets.proofs.Laws.{holds-two, has-minus}
 use Rattle.sets.proofs.minus.Statement.{statement}
 use Rattle.sets.proofs.minus.Tie as tie
 
--- src/lib.rt:58:1
 returns : tie.Need-returns
 returns c k =
     let s = c .before .before .before .before .before .before .args in
