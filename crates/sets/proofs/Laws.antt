@@ -1,11 +1,11 @@
 -- Laws of sets of two words. Assumes nothing.
 use mathlib.Core.Path.{_≡_, refl, sym, ap, ap₂, _∙_}
-use mathlib.Core.Bool.{Bool, true, false, not, _||_, _&&_, false≢true, true≢false, or-false, cond}
+use mathlib.Core.Bool.{Bool, true, false, not, _||_, _&&_, false≢true, or-false, cond}
 use mathlib.Core.Logic.{_⊎_, inl, inr, ⊎-elim}
 use Prim.Native.Nat.{ℕ, zero, suc, _+_, _-_, _*_, _/_, _%_, _^_, _<_, _≤_}
 use native.Mathlib.Nat.{one-mul, div-one, div-eq-of-lt, pow-suc, le-of-suc-le-suc, lt-of-lt-of-le, lt-of-le-of-lt}
 use native.Mathlib.Omega.{arith}
-use borrow.Author.Tests.{not-true, eq-eqb, ne-eqb, eqb-true, eqb-false, ltb-true, ltb-false, lt-ltb, le-ltb}
+use borrow.Author.Tests.{eq-eqb, ne-eqb, eqb-true, eqb-false, ltb-true, ltb-false, lt-ltb, le-ltb}
 use lib.Pow.{pow-mono, shr-shr, shr-le, shl-exact}
 use lib.Dec.{eqb, ltb}
 use lib.Count.{trailingZeros, under}
@@ -35,12 +35,6 @@ module _ (lo hi i : ℕ) where
   holds-high h = rw (le-ltb i 64 h)
 
 -- what holds of both words, bit by bit, holds of the sets
-pub holds-one : (f : Bool → Bool) (lo hi lo' hi' k : ℕ) → bit lo' k ≡ f (bit lo k) → bit hi' (k - 64) ≡ f (bit hi (k - 64))
-    → holds lo' hi' k ≡ f (holds lo hi k)
-holds-one f lo hi lo' hi' k a b =
-    ⊎-elim (λ l. holds-low lo' hi' k l ∙ a ∙ ap f (sym (holds-low lo hi k l)))
-    (λ l. holds-high lo' hi' k l ∙ b ∙ ap f (sym (holds-high lo hi k l))) (lt-or-le k 64)
-
 pub holds-two : (f : Bool → Bool → Bool) (alo ahi blo bhi lo hi : ℕ) → ((k : ℕ) → bit lo k ≡ f (bit alo k) (bit blo k))
     → ((k : ℕ) → bit hi k ≡ f (bit ahi k) (bit bhi k)) → (k : ℕ) → holds lo hi k ≡ f (holds alo ahi k) (holds blo bhi k)
 holds-two f alo ahi blo bhi lo hi a b k =
@@ -297,37 +291,6 @@ insert-high lo hi i k h l =
     ∙ (holds-two _||_ lo hi 0 (2 ^ (i - 64)) lo (bitOr hi (2 ^ (i - 64))) (λ j. sym (ap (λ (b : Bool). bit lo j || b) (zero-has j) ∙ or-false (bit lo j))) (λ j. has-or hi (2 ^ (i - 64)) j) k
     ∙ ap (λ (b : Bool). holds lo hi k || b) (single-high i k h))
 
--- sets with nothing in common
+-- a word without bits
 pub bits-zero : (m : ℕ) → m < 2 ^ 64 → ((k : ℕ) → k < 64 → bit m k ≡ false) → m ≡ 0
 bits-zero m h f = same-bits 64 m 0 h (omega arith) (λ i l. f i l ∙ sym (zero-has i))
-
-or-zero : (a b : ℕ) → bitOr a b ≡ 0 → (k : ℕ) → (bit a k ≡ false) × (bit b k ≡ false)
-or-zero a b e k = go (bit a k) refl (bit b k) refl (sym (has-or a b k) ∙ (ap (λ (m : ℕ). bit m k) e ∙ zero-has k))
-  where
-    go : (x : Bool) → bit a k ≡ x → (y : Bool) → bit b k ≡ y → (bit a k || bit b k) ≡ false → (bit a k ≡ false) × (bit b k ≡ false)
-    go true p y q h = absurd (true≢false (rw p at h))
-    go false p true q h = absurd (true≢false (rw (p, q) at h))
-    go false p false q h = (p, q)
-
-module _ (alo ahi blo bhi : ℕ) where
-  abbrev outside : ℕ → Bool
-  outside k = not (holds alo ahi k && holds blo bhi k)
-
-  out-low : (k : ℕ) → k < 64 → outside k ≡ not (bit (bitAnd alo blo) k)
-  out-low k l = ap₂ (λ (x y : Bool). not (x && y)) (holds-low alo ahi k l) (holds-low blo bhi k l) ∙ ap not (sym (has-and alo blo k))
-
-  out-high : (k : ℕ) → 64 ≤ k → outside k ≡ not (bit (bitAnd ahi bhi) (k - 64))
-  out-high k l = ap₂ (λ (x y : Bool). not (x && y)) (holds-high alo ahi k l) (holds-high blo bhi k l) ∙ ap not (sym (has-and ahi bhi (k - 64)))
-
-  pub apart-is : alo < 2 ^ 64 → ahi < 2 ^ 64 → blo < 2 ^ 64 → bhi < 2 ^ 64 → eqb (bitOr (bitAnd alo blo) (bitAnd ahi bhi)) 0 ≡ allBelow 128 outside
-  apart-is p q r s =
-      agree _ _
-      (λ e. let z = or-zero (bitAnd alo blo) (bitAnd ahi bhi) (eqb-true _ _ e) in
-      all-below outside 128
-      (λ k _. ⊎-elim (λ l. out-low k l ∙ ap not (z k .0)) (λ l. out-high k l ∙ ap not (z (k - 64) .1)) (lt-or-le k 64)))
-      (λ e.
-      let low : bitAnd alo blo ≡ 0 = bits-zero (bitAnd alo blo) (and-lt 64 alo blo p r) (λ k l. not-true (bit (bitAnd alo blo) k) (sym (out-low k l) ∙ all-at outside 128 e k (omega arith))) in
-      let high : bitAnd ahi bhi ≡ 0 = bits-zero (bitAnd ahi bhi) (and-lt 64 ahi bhi q s) (λ k l.
-      let d : k + 64 - 64 ≡ k = omega arith in
-      not-true (bit (bitAnd ahi bhi) k) (ap (λ (j : ℕ). not (bit (bitAnd ahi bhi) j)) (sym d) ∙ (sym (out-high (k + 64) (omega arith)) ∙ all-at outside 128 e (k + 64) (omega arith)))) in
-      rw (low, high))

@@ -40,38 +40,6 @@ pub fn insert(s: Set, i: usize) -> Set
     }
 }
 
-pub fn single(i: usize) -> Set
-    requires { ⌜ i < 128 ⌝ }
-    ensures { λ r. ⌜ ((k : ℕ) → holds (r .lo) (r .hi) k ≡ eqb k i) ⌝ }
-{
-    if i < 64 {
-        Set { lo: 1 << i, hi: 0 }
-    } else {
-        Set {
-            lo: 0,
-            hi: 1 << (i - 64),
-        }
-    }
-}
-
-pub fn both(a: Set, b: Set) -> Set
-    ensures { λ r. ⌜ ((k : ℕ) → holds (r .lo) (r .hi) k ≡ (holds (a .lo) (a .hi) k && holds (b .lo) (b .hi) k)) ⌝ }
-{
-    Set {
-        lo: a.lo & b.lo,
-        hi: a.hi & b.hi,
-    }
-}
-
-pub fn either(a: Set, b: Set) -> Set
-    ensures { λ r. ⌜ ((k : ℕ) → holds (r .lo) (r .hi) k ≡ (holds (a .lo) (a .hi) k || holds (b .lo) (b .hi) k)) ⌝ }
-{
-    Set {
-        lo: a.lo | b.lo,
-        hi: a.hi | b.hi,
-    }
-}
-
 pub fn minus(a: Set, b: Set) -> Set
     ensures { λ r. ⌜ ((k : ℕ) → holds (r .lo) (r .hi) k ≡ (holds (a .lo) (a .hi) k && not (holds (b .lo) (b .hi) k))) ⌝ }
 {
@@ -79,14 +47,6 @@ pub fn minus(a: Set, b: Set) -> Set
         lo: a.lo ^ (a.lo & b.lo),
         hi: a.hi ^ (a.hi & b.hi),
     }
-}
-
-pub fn remove(s: Set, i: usize) -> Set
-    requires { ⌜ i < 128 ⌝ }
-    ensures { λ r. ⌜ ((k : ℕ) → holds (r .lo) (r .hi) k ≡ (holds (s .lo) (s .hi) k && not (eqb k i))) ⌝ }
-{
-    let one = single(i);
-    minus(s, one)
 }
 
 pub fn subset(a: Set, b: Set) -> bool
@@ -141,11 +101,4 @@ pub fn put(t: &mut [u64], k: usize, s: Set)
     let j = i + 1;
     t[i] = s.lo;
     t[j] = s.hi;
-}
-
-pub fn apart(a: Set, b: Set) -> bool
-    ensures { λ r. ⌜ r ≡ allBelow 128 (λ (k : ℕ). not (holds (a .lo) (a .hi) k && holds (b .lo) (b .hi) k)) ⌝ }
-{
-    let both = (a.lo & b.lo) | (a.hi & b.hi);
-    both == 0
 }

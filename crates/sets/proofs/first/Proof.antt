@@ -1,3 +1,4 @@
+-- The low word from there on, then the high one; where none is left, 128.
 use Prim.Native.Nat.{_-_, _/_, _^_}
 use native.Mathlib.Omega.{arith}
 use lib.Count.{trailing-le}
@@ -7,55 +8,42 @@ use borrow.Author.Needs.{needs}
 use Rattle.sets.proofs.first.Statement.{statement}
 use Rattle.sets.proofs.first.Tie as tie
 
--- src/lib.rt:84:17
 shr-w : tie.Need-shr-w
 shr-w c = search needs
 
--- src/lib.rt:87:27
 cast-result : tie.Need-cast-result
 cast-result c = let s = c .before .before .before .args in omega (arith, trailing-le 64 (s .s .lo / 2 ^ s .from))
 
--- src/lib.rt:87:20
 add-result : tie.Need-add-result
 add-result c = let s = c .before .before .before .args in omega (arith, trailing-le 64 (s .s .lo / 2 ^ s .from))
 
--- src/lib.rt:87:13
 returns : tie.Need-returns
 returns c = let s = c .before .before .before .args in first-low (s .s .lo) (s .s .hi) (s .from) (omega arith) (c .if2 .taken)
 
--- src/lib.rt:90:21
 cast-result-2 : tie.Need-cast-result-2
 cast-result-2 c = let s = c .before .before .before .before .args in omega (arith, trailing-le 64 (s .s .hi))
 
--- src/lib.rt:90:16
 add-result-2 : tie.Need-add-result-2
 add-result-2 c = let s = c .before .before .before .before .args in omega (arith, trailing-le 64 (s .s .hi))
 
--- src/lib.rt:90:9
 returns-2 : tie.Need-returns-2
 returns-2 c = let s = c .before .before .before .before .args in first-next (s .s .lo) (s .s .hi) (s .from) (omega arith) (omega arith) (c .before .if2 .left)
 
--- src/lib.rt:93:17
 shr-v : tie.Need-shr-v
 shr-v c = search needs
 
--- src/lib.rt:96:27
 cast-result-3 : tie.Need-cast-result-3
 cast-result-3 c = let s = c .before .before .before .before .args in omega (arith, trailing-le 64 (s .s .hi / 2 ^ (s .from - 64)))
 
--- src/lib.rt:96:20
 add-result-3 : tie.Need-add-result-3
 add-result-3 c = let s = c .before .before .before .before .args in omega (arith, trailing-le 64 (s .s .hi / 2 ^ (s .from - 64)))
 
--- src/lib.rt:96:13
 returns-3 : tie.Need-returns-3
 returns-3 c = let s = c .before .before .before .before .args in first-high (s .s .lo) (s .s .hi) (s .from) (omega arith) (omega arith) (c .if4 .taken)
 
--- src/lib.rt:79:1
 returns-4 : tie.Need-returns-4
 returns-4 c = let s = c .before .before .before .before .args in first-none (s .s .lo) (s .s .hi) (s .from) (omega arith) (omega arith) (omega arith) (c .if4 .left)
 
--- src/lib.rt:79:1
 returns-5 : tie.Need-returns-5
 returns-5 c = let s = c .before .before .args in first-past (holds (s .s .lo) (s .s .hi)) (s .from) (omega arith) (omega arith)
 

@@ -1,3 +1,4 @@
+-- The bit of the low word, or of the high one.
 use mathlib.Core.Path.{sym}
 use native.Mathlib.Omega.{arith}
 use Rattle.sets.proofs.Laws.{holds-low, holds-high}
@@ -5,19 +6,15 @@ use borrow.Author.Needs.{needs}
 use Rattle.sets.proofs.has.Statement.{statement}
 use Rattle.sets.proofs.has.Tie as tie
 
--- src/lib.rt:18:10
 shr-result : tie.Need-shr-result
 shr-result c = search needs
 
--- src/lib.rt:20:10
 shr-result-2 : tie.Need-shr-result-2
 shr-result-2 c = search needs
 
--- src/lib.rt:13:1
 returns : tie.Need-returns
 returns c = let s = c .before .before .args in sym (holds-low (s .s .lo) (s .s .hi) (s .i) (omega arith))
 
--- src/lib.rt:13:1
 returns-2 : tie.Need-returns-2
 returns-2 c = let s = c .before .before .args in sym (holds-high (s .s .lo) (s .s .hi) (s .i) (omega arith))
 

@@ -1,22 +1,19 @@
+-- One bit more in the low word, or in the high one.
 use native.Mathlib.Omega.{arith}
 use Rattle.sets.proofs.Laws.{insert-low, insert-high}
 use borrow.Author.Needs.{needs}
 use Rattle.sets.proofs.insert.Statement.{statement}
 use Rattle.sets.proofs.insert.Tie as tie
 
--- src/lib.rt:29:27
 shl-t6 : tie.Need-shl-t6
 shl-t6 c = search needs
 
--- src/lib.rt:31:37
 shl-t10 : tie.Need-shl-t10
 shl-t10 c = search needs
 
--- src/lib.rt:24:1
 returns : tie.Need-returns
 returns c k = let s = c .before .before .args in insert-low (s .s .lo) (s .s .hi) (s .i) k (omega arith)
 
--- src/lib.rt:24:1
 returns-2 : tie.Need-returns-2
 returns-2 c k = let s = c .before .before .args in insert-high (s .s .lo) (s .s .hi) (s .i) k (omega arith) (omega arith)
 
