@@ -13,7 +13,7 @@ use Rattle.model.specs.Execution.{isStore, isRelease, kindOf, stores, operation
 use Rattle.model.specs.Rules.{linked, inWB, remoteOf, accesses}
 use Rattle.decoded.specs.declared.types.Execution.{Execution}
 use Rattle.decoded.specs.Decoded.{instructionAt, executionOf}
-use Rattle.marks.specs.Marks.{hasMark, markAt}
+use Rattle.marks.specs.Marks.{hasMark, conflictMark, bypassMark, markAt}
 use Rattle.links.specs.declared.operations.Operations.{Operations}
 use Rattle.links.specs.Operations.{operationAt}
 use Rattle.links.specs.Compiled.{Compiled}
@@ -128,7 +128,7 @@ writes role = eqb role 1 || leb 3 role
 -- processor, for an R the own RV of a UC store.
 unfoldable pub rivalBy : ℕ → ℕ → ℕ → ℕ → ℕ → Bool
 rivalBy marks role first processor a =
-    cond (eqb role 0) (hasMark marks 256 && eqb a (1 + first + processor)) (leb 3 role && (hasMark marks 128 && eqb a (1 + first + (role - 3))))
+    cond (eqb role 0) (hasMark marks bypassMark && eqb a (1 + first + processor)) (leb 3 role && (hasMark marks conflictMark && eqb a (1 + first + (role - 3))))
 
 module _ (x : Execution) (t : Operations) (marks : List (List ℕ)) (o : ℕ) where
   abbrev pub owner : ℕ

@@ -6,7 +6,7 @@ use lib.ListN.{getD}
 use lib.Dec.{ltb}
 use Rattle.base.specs.Lists.{below, member}
 use Rattle.decoded.specs.declared.types.Execution.{Execution}
-use Rattle.marks.specs.Marks.{hasMark, markAt}
+use Rattle.marks.specs.Marks.{hasMark, atomicMark, markAt}
 use Rattle.links.specs.declared.operations.Operations.{Operations}
 
 -- the numbers of the RVs of a store, by that of its LV
@@ -17,5 +17,5 @@ remotesFrom first processors = map (λ q. suc first + q) (below processors)
 unfoldable pub partnerAt : Execution → Operations → List (List ℕ) → ℕ → ℕ → Bool
 partnerAt x t marks o a =
     not (ltb (getD (t .roles) o 0) 3)
-    && (hasMark (markAt marks (getD (t .owners) o 0) (getD (t .owners) o 0)) 512
+    && (hasMark (markAt marks (getD (t .owners) o 0) (getD (t .owners) o 0)) atomicMark
     && member (remotesFrom (getD (x .instructions .firsts) (getD (t .owners) o 0) 0) (x .processors)) a)

@@ -23,6 +23,16 @@ sharesByte address size other extent = any (λ a. leb other a && ltb a (other + 
 abbrev pub hasMark : ℕ → ℕ → Bool
 hasMark marks mark = eqb (marks / mark % 2) 1
 
+-- the marks of rules 9 and 10, of rule 14 and of rule 12
+abbrev pub conflictMark : ℕ
+conflictMark = 128
+
+abbrev pub bypassMark : ℕ
+bypassMark = 256
+
+abbrev pub atomicMark : ℕ
+atomicMark = 512
+
 -- the first is an earlier instruction of the second's program
 unfoldable pub earlierOf : Instruction → Instruction → Bool
 earlierOf i j = eqb (i .processor) (j .processor) && ltb (i .number) (j .number)

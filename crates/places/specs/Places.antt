@@ -8,14 +8,18 @@ use lib.Dec.{eqb, ltb}
 use Rattle.base.specs.Lists.{distinct}
 use Rattle.places.specs.declared.Placing.{Placing}
 
--- the place of operation o, counted from k; 255 where it does not stand
+-- the place of what does not stand, after all others
+abbrev pub noPlace : ℕ
+noPlace = 255
+
+-- the place of operation o, counted from k
 unfoldable pub placeFrom : ℕ → List ℕ → ℕ → ℕ
-placeFrom k [] o = 255
+placeFrom k [] o = noPlace
 placeFrom k (x ∷ xs) o = cond (eqb x o) k (placeFrom (suc k) xs o)
 
 -- what the table says
 unfoldable pub placed : List ℕ → ℕ → ℕ
-placed places o = cond (ltb o 128) (getD places o 0) 255
+placed places o = cond (ltb o 128) (getD places o 0) noPlace
 
 -- by the table a stands, and b stands later or not at all
 abbrev pub beforeBy : List ℕ → ℕ → ℕ → Bool

@@ -8,7 +8,7 @@ use Rattle.base.specs.Below.{anyBelow}
 use Rattle.decoded.specs.Kinds.{roleNumbered}
 use Rattle.decoded.specs.declared.types.Instructions.{Instructions}
 use Rattle.places.specs.Places.{beforeBy}
-use Rattle.marks.specs.Marks.{hasMark, markAt}
+use Rattle.marks.specs.Marks.{hasMark, conflictMark, bypassMark, atomicMark, markAt}
 use Rattle.links.specs.Links.{linkBy}
 
 module _ (places : List ℕ) where
@@ -39,10 +39,10 @@ module _ (places : List ℕ) where
 
   unfoldable pub pairBroken : ℕ → ℕ → ℕ → ℕ → ℕ → ℕ → ℕ → ℕ → Bool
   pairBroken rule m N P v w p q =
-      cond (eqb rule 9) (hasMark m 128 && ownTurned v w p q)
-      (cond (eqb rule 10) (hasMark m 128 && remoteTurned P v w)
-      (cond (eqb rule 12) (hasMark m 512 && releaseSplit N P v)
-      (cond (eqb rule 14) (hasMark m 256 && bypassed v w p) false)))
+      cond (eqb rule 9) (hasMark m conflictMark && ownTurned v w p q)
+      (cond (eqb rule 10) (hasMark m conflictMark && remoteTurned P v w)
+      (cond (eqb rule 12) (hasMark m atomicMark && releaseSplit N P v)
+      (cond (eqb rule 14) (hasMark m bypassMark && bypassed v w p) false)))
 
   -- some two instructions break rule 9, 10, 12 or 14
   unfoldable pub pairsBroken : ℕ → Instructions → List (List ℕ) → ℕ → ℕ → Bool
