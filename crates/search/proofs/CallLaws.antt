@@ -26,9 +26,9 @@ use Rattle.model.proofs.Consistent.{keeps-shorter, keeps-empty}
 use Rattle.walk.specs.Walks.{Closed}
 use Rattle.search.specs.declared.call.SearchReply.{SearchReply}
 use Rattle.search.specs.declared.call.SearchAnswer.the-variants.{Refused}
-use Rattle.search.specs.declared.drive.Outcome as driven
-use Rattle.search.specs.Positions.{positionOf}
-use Rattle.search.specs.Replies.{outcomeOf, verdictMeant}
+use Rattle.resume.specs.declared.drive.Outcome as driven
+use Rattle.positions.specs.Positions.{positionOf}
+use Rattle.resume.specs.Replies.{outcomeOf, verdictMeant}
 use Rattle.search.specs.Calls.{answerMeant, replyOf, checked, searched}
 
 module _ (buffer : List ℕ) (saved allowance : ℕ) where

@@ -1,7 +1,2 @@
 -- The laws of this crate, open to the crates above it.
-pub mod Greater
-pub mod Onward
-pub mod ReplayLaws
-pub mod Going
-pub mod DriveLaws
 pub mod CallLaws

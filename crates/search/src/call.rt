@@ -10,12 +10,8 @@ ghost use Rattle.model.specs.Calls.{says, searchReply, searchCall};
 ghost use Rattle.model.proofs.Accepted.{Accepted};
 ghost use Rattle.decoded.specs.Decoded.{executionOf};
 ghost use Rattle.search.specs.Calls.{answerMeant, replyOf, checked, searched};
-ghost use Rattle.search.specs.Replies.{verdictMeant};
+ghost use Rattle.resume.specs.Replies.{verdictMeant};
 ghost use Rattle.search.specs.declared.call.SearchAnswer.the-variants.{Refused};
-use crate::drive::Verdict;
-use crate::drive::drive;
-use crate::position::saved_position;
-use crate::position::write_position;
 use decoded::types::Execution;
 use format::reader::Answer;
 use format::reader::read;
@@ -23,6 +19,10 @@ use links::operations::Operations;
 use links::operations::operations_of;
 use marks::between::all_marks;
 use places::place_all;
+use positions::saved_position;
+use positions::write_position;
+use resume::drive::Verdict;
+use resume::drive::drive;
 use rows::table::rows_of;
 
 pub enum SearchAnswer {

@@ -1,5 +1,2 @@
 // The search: the first legal order, in calls of any allowance, from a saved position.
 pub mod call;
-pub mod drive;
-pub mod position;
-pub mod replay;

@@ -5,9 +5,9 @@ ghost use lib.ListN as ListN;
 ghost use Rattle.model.specs.Verdict.{callLimit, notCalled, isUnfinished, callOn};
 ghost use Rattle.search.specs.Calls.{answerMeant};
 ghost use Rattle.verdict.specs.Totals.{totalOf};
+use positions::Position;
 use search::call::SearchAnswer;
 use search::call::search;
-use search::position::Position;
 
 // The most calls.
 pub const CALL_LIMIT: u64 = 100;

@@ -1,7 +1,7 @@
 -- Each verdict is an answer.
 use mathlib.Core.Path.{sym, ap}
 use Rattle.model.specs.Calls.{says}
-use Rattle.search.specs.Replies.{verdictMeant}
+use Rattle.resume.specs.Replies.{verdictMeant}
 use borrow.Author.Needs.{needs}
 use Rattle.search.proofs.call.answer_of.Statement.{statement}
 use Rattle.search.proofs.call.answer_of.Tie as tie

@@ -10,7 +10,7 @@ use Rattle.base.specs.Lists.{distinct}
 use Rattle.model.specs.Rules.{rules, keeps}
 use Rattle.model.specs.Calls.{searchReply}
 use Rattle.decoded.specs.Decoded.{executionOf}
-use Rattle.search.specs.Positions.{positionOf}
+use Rattle.positions.specs.Positions.{positionOf}
 use Rattle.search.proofs.CallLaws.{consistent-closed, empty-keeps, driven-reply, refused-reply, checked-21, checked-on, tested-keeps, keeps-is}
 use borrow.Author.Needs.{needs}
 use Rattle.search.proofs.call.search_on.Statement.{statement}
