@@ -10,15 +10,15 @@ use lib.Dec.{eqb, ltb}
 use borrow.Author.Tests.{eq-eqb, ne-eqb, eqb-true, le-ltb, lt-ltb, not-true, not-false}
 use Rattle.base.specs.Below.{allBelow, anyBelow}
 use Rattle.base.specs.Bits.{bit}
-use Rattle.base.proofs.Bools.{agree, and-both, kept}
-use Rattle.base.proofs.Tests.{all-at, all-below, all-same, any-passes, any-below-same}
+use Rattle.base.proofs.Bools.{agree}
+use Rattle.base.proofs.Tests.{all-at, all-below, all-same, any-below-same}
 use Rattle.places.specs.Places.{beforeBy}
 use Rattle.sets.specs.Set.{holds}
 use Rattle.sets.proofs.Bit.{has-and, has-or}
 use Rattle.sets.proofs.Laws.{has-minus, has-xor, zero-has, bits-zero}
-use Rattle.sets.proofs.Members.{Over}
+use Rattle.sets.proofs.Members.{any-skips, holds-none}
 use Rattle.admit.specs.Rows.{field, rivals, bypasses, writtenBits, readBits, readData, visibleWord, ownWord, ownOf, localOf, merged, wordsWith}
-use Rattle.admit.specs.Fits.{same, waitsFor, refused, pending, localBit, sees, fitsBy}
+use Rattle.admit.specs.Fits.{same, waitsFor, refused, pending, localBit, sees}
 
 -- the ways out of the test of one rival
 module _ (rows places : List ℕ) (x m : ℕ) {own-m own-x : ℕ} (is-m : own-m ≡ ownOf rows m) (is-x : own-x ≡ ownOf rows x) {r : Bool}
@@ -65,27 +65,56 @@ pub missing-is : (rows : List ℕ) (f x lo hi slo shi mlo mhi : ℕ) → slo ≡
     → (k : ℕ) → holds mlo mhi k ≡ (holds (field rows f x) (field rows (f + 1) x) k && not (holds lo hi k))
 missing-is rows f x lo hi slo shi mlo mhi a b m k = m k ∙ ap₂ (λ (u v : ℕ). holds u v k && not (holds lo hi k)) a b
 
+-- nothing is left where all stand
+module _ (rows : List ℕ) (f x lo hi : ℕ) {slo shi : ℕ} {r : Bool} (low : slo ≡ field rows f x) (high : shi ≡ field rows (f + 1) x)
+    (stand : r ≡ allBelow 128 (λ a. not (holds slo shi a) || holds lo hi a)) (all : r ≡ true) where
+  none-missing : (k : ℕ) → k < 128 → (holds (field rows f x) (field rows (f + 1) x) k && not (holds lo hi k)) ≡ false
+  none-missing k l =
+      ap₂ (λ (u v : ℕ). holds u v k && not (holds lo hi k)) (sym low) (sym high)
+      ∙ go (holds slo shi k) (holds lo hi k) (all-at (λ a. not (holds slo shi a) || holds lo hi a) 128 (sym stand ∙ all) k l)
+    where
+      go : (a b : Bool) → (not a || b) ≡ true → (a && not b) ≡ false
+      go true b h = ap not h
+      go false b h = refl
+
+  -- so no test of those that are missing passes
+  pub any-missing : (test : ℕ → Bool) → anyBelow 128 (λ m. holds (field rows f x) (field rows (f + 1) x) m && not (holds lo hi m) && test m) ≡ false
+  unfolding anyBelow
+  any-missing test = any-skips _ 0 128 (omega arith) (λ m a l. ap (λ (b : Bool). b && test m) (none-missing m l))
+
 pub refused-by : (rows places : List ℕ) (lo hi x mlo mhi : ℕ) → ((k : ℕ) → holds mlo mhi k ≡ (rivals rows x k && not (holds lo hi k)))
     → anyBelow 128 (λ m. holds mlo mhi m && waitsFor rows places x m) ≡ refused rows places lo hi x
 unfolding refused
 refused-by rows places lo hi x mlo mhi e =
     any-below-same _ _ 128 (λ m l. ap (λ (b : Bool). b && waitsFor rows places x m) (e m))
 
-pub refused-meets : (rows places : List ℕ) (lo hi x mlo mhi m : ℕ) → ((k : ℕ) → holds mlo mhi k ≡ (rivals rows x k && not (holds lo hi k))) → m < 128 → Over mlo mhi m
-    → waitsFor rows places x m ≡ true → true ≡ refused rows places lo hi x
-refused-meets rows places lo hi x mlo mhi m e l o w =
-    sym (any-passes (λ k. holds mlo mhi k && waitsFor rows places x k) 128 m l (and-both (o .member l) w)) ∙ refused-by rows places lo hi x mlo mhi e
-
 -- the bits of an operation whose LV stands
 abbrev pub standsLocal : List ℕ → ℕ → ℕ → ℕ → Bool
 standsLocal rows lo hi m = ltb (localOf rows m) 128 && holds lo hi (localOf rows m)
 
+-- a bit is local where a store that does not stand wrote it and its LV stands
+pub local-is : (rows : List ℕ) (lo hi x i : ℕ)
+    → anyBelow 128 (λ m. bypasses rows x m && not (holds lo hi m) && (standsLocal rows lo hi m && bit (writtenBits rows m) i)) ≡ localBit rows lo hi x i
+unfolding localBit pending
+local-is rows lo hi x i =
+    any-below-same _ _ 128 (λ m l. sym (and-assoc (bypasses rows x m && not (holds lo hi m)) (standsLocal rows lo hi m) (bit (writtenBits rows m) i)))
+
 pub local-by : (rows : List ℕ) (lo hi x mlo mhi i : ℕ) → ((k : ℕ) → holds mlo mhi k ≡ (bypasses rows x k && not (holds lo hi k)))
     → anyBelow 128 (λ m. holds mlo mhi m && (standsLocal rows lo hi m && bit (writtenBits rows m) i)) ≡ localBit rows lo hi x i
-unfolding localBit pending
 local-by rows lo hi x mlo mhi i e =
-    any-below-same _ _ 128 (λ m l. ap (λ (b : Bool). b && (standsLocal rows lo hi m && bit (writtenBits rows m) i)) (e m)
-    ∙ sym (and-assoc (bypasses rows x m && not (holds lo hi m)) (standsLocal rows lo hi m) (bit (writtenBits rows m) i)))
+    any-below-same _ _ 128 (λ m l. ap (λ (b : Bool). b && (standsLocal rows lo hi m && bit (writtenBits rows m) i)) (e m)) ∙ local-is rows lo hi x i
+
+-- before any operation stands no bit is local
+pub local-none : (rows : List ℕ) (x i : ℕ) → bit 0 i ≡ localBit rows 0 0 x i
+unfolding localBit pending anyBelow
+local-none rows x i =
+    zero-has i ∙ sym (any-skips _ 0 128 (omega arith) (λ m a l.
+    go (bypasses rows x m && not (holds 0 0 m)) (ltb (localOf rows m) 128) (holds 0 0 (localOf rows m)) (bit (writtenBits rows m) i) (holds-none (localOf rows m))))
+  where
+    go : (a b d w : Bool) → d ≡ false → (a && (b && d) && w) ≡ false
+    go true true d w e = ap (λ (u : Bool). u && w) e
+    go true false d w e = refl
+    go false b d w e = refl
 
 -- a word is 0 when none of its bits is set
 word-zero : (w : ℕ) → w < 2 ^ 64 → eqb w 0 ≡ allBelow 64 (λ i. not (bit w i))
@@ -161,19 +190,6 @@ unfolding sees
 sees-nothing rows words lo hi x z =
     sym (all-below _ 64 (λ i l. ap (λ (b : ℕ). not (bit b i) || same (cond (localBit rows lo hi x i) (bit (getD words (ownWord rows x) 0) i) (bit (getD words (visibleWord rows x) 0) i)) (bit (readData rows x) i)) z
     ∙ ap (λ (b : Bool). not b || same (cond (localBit rows lo hi x i) (bit (getD words (ownWord rows x) 0) i) (bit (getD words (visibleWord rows x) 0) i)) (bit (readData rows x) i)) (zero-has i)))
-
--- the ways out of the whole test
-module _ (rows places words : List ℕ) (lo hi x : ℕ) where
-  abbrev ready : Bool
-  ready = allBelow 128 (λ a. not (holds (field rows 0 x) (field rows 1 x) a) || holds lo hi a)
-
-  pub not-ready : {r : Bool} → r ≡ ready → not r ≡ true → false ≡ fitsBy rows places lo hi words x
-  unfolding fitsBy
-  not-ready {r} e h = ap (λ (b : Bool). b && (not (refused rows places lo hi x) && sees rows lo hi words x)) (sym (not-true r h) ∙ e)
-
-  pub ready-passes : {r1 r2 : Bool} → r1 ≡ ready → not r1 ≡ false → r2 ≡ (not (refused rows places lo hi x) && sees rows lo hi words x) → r2 ≡ fitsBy rows places lo hi words x
-  unfolding fitsBy
-  ready-passes {r1} {r2} e1 k1 e2 = kept e1 (not-false r1 k1) e2
 
 -- a word written over
 pub written : (rows words : List ℕ) (x : ℕ) {at bits data' : ℕ} → at ≡ field rows 10 x → bits ≡ writtenBits rows x → data' ≡ field rows 9 x

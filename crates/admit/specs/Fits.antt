@@ -18,12 +18,13 @@ lastEntry [] = 255
 lastEntry (x ∷ []) = x
 lastEntry (x ∷ y ∷ xs) = lastEntry (y ∷ xs)
 
--- operation i may follow xs as far as rule 12 goes: all partners of the last entry stand, or i is one of them
+-- operation i may follow x as far as rule 12 goes: all partners of x stand, or i is one of them
+abbrev pub dueAfter : List ℕ → ℕ → ℕ → ℕ → ℕ → Bool
+dueAfter rows x lo hi i = allBelow 128 (λ a. not (partnerBy rows x a) || holds lo hi a) || partnerBy rows x i
+
+-- operation i may follow xs as far as rule 12 goes
 unfoldable pub dueOf : List ℕ → List ℕ → ℕ → ℕ → ℕ → Bool
-dueOf rows xs lo hi i =
-    cond (ltb (lastEntry xs) 128)
-    (allBelow 128 (λ a. not (partnerBy rows (lastEntry xs) a) || holds lo hi a) || partnerBy rows (lastEntry xs) i)
-    true
+dueOf rows xs lo hi i = cond (ltb (lastEntry xs) 128) (dueAfter rows (lastEntry xs) lo hi i) true
 
 -- both or neither
 unfoldable pub same : Bool → Bool → Bool
@@ -57,10 +58,17 @@ module _ (rows : List ℕ) (lo hi : ℕ) where
       allBelow 64 (λ i. not (bit (readBits rows x) i)
       || same (cond (localBit x i) (bit (getD words (ownWord rows x) 0) i) (bit (getD words (visibleWord rows x) 0) i)) (bit (readData rows x) i))
 
+-- what must stand before x stands
+abbrev pub ready : List ℕ → ℕ → ℕ → ℕ → Bool
+ready rows lo hi x = allBelow 128 (λ a. not (precedes rows x a) || holds lo hi a)
+
+-- x is ready, and reads what is recorded
+unfoldable pub enabled : List ℕ → ℕ → ℕ → List ℕ → ℕ → Bool
+enabled rows lo hi words x = ready rows lo hi x && sees rows lo hi words x
+
 -- the tests of operation x, which does not stand, behind what stands; rule 12 aside
 unfoldable pub fitsBy : List ℕ → List ℕ → ℕ → ℕ → List ℕ → ℕ → Bool
-fitsBy rows places lo hi words x =
-    allBelow 128 (λ a. not (precedes rows x a) || holds lo hi a) && (not (refused rows places lo hi x) && sees rows lo hi words x)
+fitsBy rows places lo hi words x = ready rows lo hi x && (not (refused rows places lo hi x) && sees rows lo hi words x)
 
 -- the two words have the operations of a prefix
 abbrev pub Standing : List ℕ → ℕ → ℕ → Type 0

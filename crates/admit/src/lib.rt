@@ -1,15 +1,14 @@
-// The test of one operation more behind a consistent prefix, on compiled rows.
+// The tests of one operation more behind a consistent prefix, on compiled rows.
 ghost use mathlib.Core.Path.{_≡_};
-ghost use mathlib.Core.Bool.{true, not, cond, _&&_, _||_};
-ghost use Prim.Native.Nat.{ℕ, _+_, _%_, _<_, _≤_};
-ghost use lib.ListN.{length, getD, set, take};
-ghost use Rattle.base.specs.Below.{allBelow};
+ghost use mathlib.Core.Bool.{not, cond, _&&_, _||_};
+ghost use Prim.Native.Nat.{ℕ, _+_, _%_, _<_};
+ghost use lib.ListN.{length, getD, set};
+ghost use Rattle.base.specs.Below.{allBelow, anyBelow};
 ghost use Rattle.base.specs.Bits.{bit};
 ghost use Rattle.sets.specs.Set.{holds};
 ghost use Rattle.admit.specs.Rows.{field, writtenBits, writtenWord, localOf, wordsWith};
 ghost use lib.Dec.{ltb};
-ghost use Rattle.admit.specs.Fits.{dueOf, same, waitsFor, refused, localBit, sees, fitsBy};
-use decoded::types::wide;
+ghost use Rattle.admit.specs.Fits.{same, waitsFor, refused, localBit, sees, enabled};
 use places::before;
 use sets::Set;
 use sets::first;
@@ -45,7 +44,7 @@ pub const OWN: usize = 15;
 pub const LOCAL: usize = 16;
 
 // Word f of the row of operation x.
-fn field_of(rows: &[u64; 2304], x: usize, f: usize) -> u64
+pub fn field_of(rows: &[u64; 2304], x: usize, f: usize) -> u64
     requires { ⌜ (x < 128) × (f < 17) ⌝ }
     ensures { λ r. ⌜ r ≡ field (now (rows .entry)) f x ⌝ }
 {
@@ -60,39 +59,13 @@ fn word_at(words: &[u64; 128], at: u64) -> u64
 }
 
 // The set in words f and f + 1 of the row of operation x.
-fn set_of(rows: &[u64; 2304], x: usize, f: usize) -> Set
+pub fn set_of(rows: &[u64; 2304], x: usize, f: usize) -> Set
     requires { ⌜ (x < 128) × (f < 16) ⌝ }
     ensures { λ r. ⌜ (r .lo ≡ field (now (rows .entry)) f x) × (r .hi ≡ field (now (rows .entry)) (f + 1) x) ⌝ }
 {
     let lo = rows[17 * x + f];
     let hi = rows[17 * x + (f + 1)];
     Set { lo, hi }
-}
-
-// All operations.
-fn all() -> Set
-    ensures { λ r. ⌜ ((i : ℕ) → i < 128 → holds (r .lo) (r .hi) i ≡ true) ⌝ }
-{
-    Set {
-        lo: 18446744073709551615,
-        hi: 18446744073709551615,
-    }
-}
-
-// The operations of which one must follow the first k entries: the RVs of an st.rel to WB that is open, else all.
-pub fn due_at(position: &[u8; 128], k: usize, rows: &[u64; 2304], stand: Set) -> Set
-    requires { ⌜ (k ≤ 128) × (k ≤ length (now position)) ⌝ }
-    ensures { λ r. ⌜ ((i : ℕ) → i < 128 → holds (r .lo) (r .hi) i ≡ dueOf (now (rows .entry)) (take k (now (position .entry))) (stand .lo) (stand .hi) i) ⌝ }
-{
-    if k == 0 {
-        return all();
-    }
-    let last = wide(position[k - 1]);
-    if last >= 128 {
-        return all();
-    }
-    let open = set_of(rows, last, PARTNERS);
-    if subset(open, stand) { all() } else { open }
 }
 
 // Whether operation x must wait for operation m, which does not stand.
@@ -116,12 +89,11 @@ fn waits_for(rows: &[u64; 2304], places: &[u8; 128], x: usize, m: usize) -> bool
     before(places, local_m, local_x)
 }
 
-// Rules 9, 10 and 14: whether operation x must wait for an operation that does not stand.
-fn is_refused(rows: &[u64; 2304], places: &[u8; 128], stand: Set, x: usize) -> bool
+// Whether operation x must wait for one of those that are missing.
+fn waits_for_any(rows: &[u64; 2304], places: &[u8; 128], missing: Set, x: usize) -> bool
     requires { ⌜ x < 128 ⌝ }
-    ensures { λ r. ⌜ r ≡ refused (now (rows .entry)) (now (places .entry)) (stand .lo) (stand .hi) x ⌝ }
+    ensures { λ r. ⌜ r ≡ anyBelow 128 (λ (m : ℕ). holds (missing .lo) (missing .hi) m && waitsFor (now (rows .entry)) (now (places .entry)) x m) ⌝ }
 {
-    let missing = minus(set_of(rows, x, RIVALS), stand);
     let mut m = first(missing, 0);
     while m < 128 {
         if waits_for(rows, places, x, m) {
@@ -131,6 +103,18 @@ fn is_refused(rows: &[u64; 2304], places: &[u8; 128], stand: Set, x: usize) -> b
         m = first(missing, from);
     }
     false
+}
+
+// Rules 9, 10 and 14: whether operation x must wait for an operation that does not stand. Mostly none is missing, so that is asked first.
+pub fn is_refused(rows: &[u64; 2304], places: &[u8; 128], stand: Set, x: usize) -> bool
+    requires { ⌜ x < 128 ⌝ }
+    ensures { λ r. ⌜ r ≡ refused (now (rows .entry)) (now (places .entry)) (stand .lo) (stand .hi) x ⌝ }
+{
+    let rivals = set_of(rows, x, RIVALS);
+    if subset(rivals, stand) {
+        return false;
+    }
+    waits_for_any(rows, places, minus(rivals, stand), x)
 }
 
 // The bits that the store of m wrote, where its LV stands.
@@ -148,12 +132,10 @@ fn bits_of(rows: &[u64; 2304], stand: Set, m: usize) -> u64
     field_of(rows, m, WRITTEN_BITS)
 }
 
-// The bits that the R x reads from what its own processor wrote.
-fn local_bits(rows: &[u64; 2304], stand: Set, x: usize) -> u64
-    requires { ⌜ x < 128 ⌝ }
-    ensures { λ r. ⌜ ((i : ℕ) → bit r i ≡ localBit (now (rows .entry)) (stand .lo) (stand .hi) x i) ⌝ }
+// The bits that those of the missing stores wrote whose LVs stand.
+fn pending_bits(rows: &[u64; 2304], stand: Set, missing: Set) -> u64
+    ensures { λ r. ⌜ ((i : ℕ) → bit r i ≡ anyBelow 128 (λ (m : ℕ). holds (missing .lo) (missing .hi) m && (ltb (localOf (now (rows .entry)) m) 128 && holds (stand .lo) (stand .hi) (localOf (now (rows .entry)) m) && bit (writtenBits (now (rows .entry)) m) i))) ⌝ }
 {
-    let missing = minus(set_of(rows, x, BYPASSES), stand);
     let mut bits = 0;
     let mut m = first(missing, 0);
     while m < 128 {
@@ -162,6 +144,18 @@ fn local_bits(rows: &[u64; 2304], stand: Set, x: usize) -> u64
         m = first(missing, from);
     }
     bits
+}
+
+// The bits that the R x reads from what its own processor wrote. Mostly no store is missing, so that is asked first.
+fn local_bits(rows: &[u64; 2304], stand: Set, x: usize) -> u64
+    requires { ⌜ x < 128 ⌝ }
+    ensures { λ r. ⌜ ((i : ℕ) → bit r i ≡ localBit (now (rows .entry)) (stand .lo) (stand .hi) x i) ⌝ }
+{
+    let stores = set_of(rows, x, BYPASSES);
+    if subset(stores, stand) {
+        return 0;
+    }
+    pending_bits(rows, stand, minus(stores, stand))
 }
 
 // Whether what is seen, of `own` where `local` is set and of `visible` elsewhere, is `data` in some bits.
@@ -187,33 +181,30 @@ fn reads_right(rows: &[u64; 2304], words: &[u64; 128], stand: Set, x: usize) -> 
     agrees(own, visible, local, field_of(rows, x, READ_DATA), bits)
 }
 
-// Rules 9, 10, 11 and 14 for operation x, whose predecessors stand.
-fn passes(rows: &[u64; 2304], places: &[u8; 128], words: &[u64; 128], stand: Set, x: usize) -> bool
+// Whether what must stand before operation x stands, and x reads what is recorded: `stand` has the operations that stand, `words` what they wrote.
+pub fn is_enabled(rows: &[u64; 2304], words: &[u64; 128], stand: Set, x: usize) -> bool
     requires { ⌜ x < 128 ⌝ }
-    ensures { λ r. ⌜ r ≡ (not (refused (now (rows .entry)) (now (places .entry)) (stand .lo) (stand .hi) x) && sees (now (rows .entry)) (stand .lo) (stand .hi) (now (words .entry)) x) ⌝ }
+    ensures { λ r. ⌜ r ≡ enabled (now (rows .entry)) (stand .lo) (stand .hi) (now (words .entry)) x ⌝ }
 {
-    if is_refused(rows, places, stand, x) {
+    if !subset(set_of(rows, x, PREDS), stand) {
         return false;
     }
     reads_right(rows, words, stand, x)
 }
 
-// Whether operation x, which does not stand, may follow: `stand` has the operations that stand, `places` their places, `words` what they wrote. Most
-// operations wait for a predecessor, so that is asked first, and small enough to be asked in place.
-pub fn fits(
-    rows: &[u64; 2304],
-    places: &[u8; 128],
-    words: &[u64; 128],
-    stand: Set,
-    x: usize,
-) -> bool
+// Whether operation x is enabled before any operation stands: nothing must stand before it, and it reads what its own processor has not written.
+pub fn is_enabled_first(rows: &[u64; 2304], words: &[u64; 128], x: usize) -> bool
     requires { ⌜ x < 128 ⌝ }
-    ensures { λ r. ⌜ r ≡ fitsBy (now (rows .entry)) (now (places .entry)) (stand .lo) (stand .hi) (now (words .entry)) x ⌝ }
+    ensures { λ r. ⌜ r ≡ enabled (now (rows .entry)) 0 0 (now (words .entry)) x ⌝ }
 {
-    if !subset(set_of(rows, x, PREDS), stand) {
+    let none = Set { lo: 0, hi: 0 };
+    if !subset(set_of(rows, x, PREDS), none) {
         return false;
     }
-    passes(rows, places, words, stand, x)
+    let own = word_at(words, field_of(rows, x, OWN_WORD));
+    let visible = word_at(words, field_of(rows, x, VISIBLE_WORD));
+    let bits = field_of(rows, x, READ_BITS);
+    agrees(own, visible, 0, field_of(rows, x, READ_DATA), bits)
 }
 
 // Writes what operation x writes, and answers with the word that was there.

@@ -27,7 +27,8 @@ use Rattle.admit.specs.Rows.{partner, partnerBy}
 use Rattle.meaning.proofs.Tables.{Tables, Holds}
 use Rattle.meaning.proofs.Owners.{number-low}
 use Rattle.admit.specs.Fits.{lastEntry, dueOf, Standing}
-use Rattle.admit.proofs.FitLaws.{last-more, due-any}
+use Rattle.admit.proofs.FitLaws.{last-more}
+use Rattle.admit.proofs.FitLaws as FitLaws
 
 -- a list is empty, or a list with one entry more
 by-last : (C : List ℕ → Type 0) → C [] → ((ys : List ℕ) (o : ℕ) → C (ys ++ (o ∷ []))) → (xs : List ℕ) → C xs
@@ -205,7 +206,7 @@ module _ {t : Tables} (h : Holds t) (accepted : Accepted (executionOf (t .execut
   due-first : (x lo hi : ℕ) → dueOf (t .rows) [] lo hi x ≡ not (any (interrupts e x []) (stores e))
   unfolding lastEntry member
   due-first x lo hi =
-      sym (due-any (t .rows) [] lo hi x (omega arith)) ∙ ap not (sym (is-false (any (interrupts e x []) (stores e)) (λ s.
+      FitLaws.due-first (t .rows) lo hi x ∙ ap not (sym (is-false (any (interrupts e x []) (stores e)) (λ s.
       let (w, mw, k) = any-witness (interrupts e x []) (stores e) s in
       let (release, none, a, ma, here, c, mc, misses) = of-interrupts e x [] w k in
       clash here refl)))

@@ -22,8 +22,8 @@ use Rattle.resume.specs.Replays.{Replayed}
 use Rattle.resume.specs.Drives.{Bounded, Ran, Driven}
 use Rattle.resume.proofs.Onward.{onward-done}
 
-module _ {n : ℕ} {rows : List ℕ} {given : Position} {ok : Bool} {entries places stand words replaced : List ℕ} (allowance : ℕ) {r : Outcome}
-    (replayed : Replayed n rows (given .length) (given .entries) ok entries places stand words replaced) (room : given .length ≤ n) (whole : ListN.length (given .entries) ≡ 128) where
+module _ {n : ℕ} {rows : List ℕ} {given : Position} {ok : Bool} {entries places levels words replaced : List ℕ} (allowance : ℕ) {r : Outcome}
+    (replayed : Replayed n rows (given .length) (given .entries) ok entries places levels words replaced) (room : given .length ≤ n) (whole : ListN.length (given .entries) ≡ 128) where
   bounds : r .position ≡ given → Bounded n r
   bounds p = record { short = omega (arith, ap (λ (q : Position). q .length) p, room); whole = ap (λ (q : Position). ListN.length (q .entries)) p ∙ whole }
 

@@ -19,21 +19,21 @@ abbrev pub Comes : ℕ → List ℕ → List ℕ → ℕ → Outcome → Type 0
 Comes n rows given allowance o = (c : List ℕ → Bool) → Tested c n rows → Closed c → c given ≡ true → o ≡ searchFrom n c given allowance
 
 -- The invariant: `made` steps have led to the first k entries.
-pub record Going (n : ℕ) (rows given : List ℕ) (allowance : ℕ) (stand entries places words replaced : List ℕ) (k made : ℕ) : Type 0 where
+pub record Going (n : ℕ) (rows given : List ℕ) (allowance : ℕ) (levels entries places words replaced : List ℕ) (k made : ℕ) : Type 0 where
   pub few : n ≤ 128
   pub room : k < n
   pub allows : made ≤ allowance
   pub whole : length entries ≡ 128
   pub long : length places ≡ 128
   pub wide : length words ≡ 128
-  pub kept : Kept n rows entries places stand words replaced k
+  pub kept : Kept n rows entries places levels words replaced k
   pub rest : (c : List ℕ → Bool) → Tested c n rows → Closed c → c given ≡ true
       → Passes c n (take k entries) × (searchFrom n c given allowance ≡ onward made given (searchFrom n c (take k entries) (allowance - made)))
 
-pub going-starts : {n : ℕ} {rows : List ℕ} {allowance : ℕ} {stand entries places words replaced : List ℕ} {k : ℕ} → n ≤ 128 → k < n → length entries ≡ 128
-    → length places ≡ 128 → length words ≡ 128 → Kept n rows entries places stand words replaced k
-    → Going n rows (take k entries) allowance stand entries places words replaced k 0
-going-starts {n} {rows} {allowance} {stand} {entries} {k = k} f r w l v h = record {
+pub going-starts : {n : ℕ} {rows : List ℕ} {allowance : ℕ} {levels entries places words replaced : List ℕ} {k : ℕ} → n ≤ 128 → k < n → length entries ≡ 128
+    → length places ≡ 128 → length words ≡ 128 → Kept n rows entries places levels words replaced k
+    → Going n rows (take k entries) allowance levels entries places words replaced k 0
+going-starts {n} {rows} {allowance} {levels} {entries} {k = k} f r w l v h = record {
   few = f;
   room = r;
   allows = omega arith;
@@ -48,13 +48,13 @@ going-starts {n} {rows} {allowance} {stand} {entries} {k = k} f r w l v h = reco
   );
 }
 
-module _ {n : ℕ} {rows given : List ℕ} {allowance : ℕ} {stand entries places words replaced : List ℕ} {k made : ℕ} (inv : Going n rows given allowance stand entries places words replaced k made)
-    {r : WalkAnswer} {entries′ places′ stand′ words′ replaced′ : List ℕ} (walked : Walked n rows (take k entries) r entries′ places′ stand′ words′ replaced′) where
+module _ {n : ℕ} {rows given : List ℕ} {allowance : ℕ} {levels entries places words replaced : List ℕ} {k made : ℕ} (inv : Going n rows given allowance levels entries places words replaced k made)
+    {r : WalkAnswer} {entries′ places′ levels′ words′ replaced′ : List ℕ} (walked : Walked n rows (take k entries) r entries′ places′ levels′ words′ replaced′) where
   short : length (take k entries) < n
   short = omega (arith, inv .room, length-take-le k entries (omega (arith, inv .room, inv .few, inv .whole)))
 
-  known : {a : WalkAnswer} → r ≡ a → Walked n rows (take k entries) a entries′ places′ stand′ words′ replaced′
-  known e = subst (λ (a : WalkAnswer). Walked n rows (take k entries) a entries′ places′ stand′ words′ replaced′) e walked
+  known : {a : WalkAnswer} → r ≡ a → Walked n rows (take k entries) a entries′ places′ levels′ words′ replaced′
+  known e = subst (λ (a : WalkAnswer). Walked n rows (take k entries) a entries′ places′ levels′ words′ replaced′) e walked
 
   -- nothing is left
   pub going-ends : r ≡ End → Comes n rows given allowance (record { verdict = forbidden; steps = made; position = given })
@@ -79,7 +79,7 @@ module _ {n : ℕ} {rows given : List ℕ} {allowance : ℕ} {stand entries plac
         ∙ ap (λ (m : ℕ). record { verdict = allowed; steps = m; position = take size entries′ }) (let z : suc made ≡ made + 1 = omega arith in z))
 
     -- it is not
-    pub going-on : made < allowance → (size ≡ n → ⊥) → Going n rows given allowance stand′ entries′ places′ words′ replaced′ size (made + 1)
+    pub going-on : made < allowance → (size ≡ n → ⊥) → Going n rows given allowance levels′ entries′ places′ words′ replaced′ size (made + 1)
     going-on l more =
         let (f, w, g, v, h) = known e .ready in
         record {

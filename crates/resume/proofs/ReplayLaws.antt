@@ -1,52 +1,85 @@
--- A position made again entry by entry: each entry must be due and fit.
-use Prim.Native.Nat.{ℕ, suc, _+_, _*_, _-_, _≤_, _<_}
+-- A position made again entry by entry: each entry must be open and not refused.
+use Prim.Native.Nat.{ℕ, suc, _+_, _*_, _≤_, _<_}
 use native.Mathlib.Omega.{arith}
 use native.Mathlib.Numerals.{add-one}
 use mathlib.Core.Path.{_≡_, refl, sym, ap, ap₂, _∙_, subst}
-use mathlib.Core.Bool.{Bool, true, false, not, cond, _&&_, _||_}
+use mathlib.Core.Bool.{Bool, true, false, not, _&&_, and-false}
 use mathlib.Core.List.{List, [], _∷_, _++_}
-use lib.ListN.{length, getD, set, take, drop, replicate, length-set, take-append-drop}
+use lib.ListN.{length, getD, set, take, drop, replicate, length-set, length-replicate, take-append-drop}
 use lib.Seq.{set-getD, take-suc, take-take}
-use lib.Dec.{eqb, ltb}
 use borrow.Author.Tests.{not-true, not-false}
 use Rattle.base.specs.Lists.{member, distinct}
 use Rattle.base.proofs.Bools.{clash, is-false}
 use Rattle.base.proofs.Lists.{distinct-first}
 use Rattle.places.proofs.PlaceLaws.{placing-none, placed-none}
-use Rattle.sets.specs.Set.{holds, setAt}
-use Rattle.sets.proofs.Laws.{zero-has}
+use Rattle.sets.specs.Set.{holds}
+use Rattle.sets.proofs.Members.{holds-none}
+use Rattle.sets.proofs.Tables.{putAt, put-here, put-word, put-other, put-length}
 use Rattle.admit.specs.Rows.{writtenWord, wordsWith, wordsFrom, wordsAfter, firstWords}
-use Rattle.admit.specs.Fits.{dueOf, fitsBy, Standing, Tested}
-use Rattle.walk.specs.Walks.{Levelled, Closed, Kept}
+use Rattle.admit.specs.Fits.{dueOf, refused, enabled, Standing, Tested}
+use Rattle.admit.proofs.FitLaws.{due-first}
+use Rattle.enabled.specs.Moves.{Moving}
+use Rattle.walk.specs.Walks.{stands, enables, opens, low, high, Levels, Level, Entered, Closed, Kept}
 use Rattle.walk.proofs.Gaps.{closed-front, entry}
-use Rattle.walk.proofs.Levels.{placed-more, levelled-more, member-more, remembered-more}
+use Rattle.walk.proofs.Levels.{placed-more, remembered-more, levels-more}
+use Rattle.walk.proofs.Search.{open-tells}
 use Rattle.resume.specs.Replays.{Replayed}
 
--- nothing is in the empty set
-holds-none : (a : ℕ) → holds 0 0 a ≡ false
-unfolding holds
-holds-none a = rw (zero-has a, zero-has (a - 64)) (either (ltb a 64))
-  where
-    either : (b : Bool) → cond b false false ≡ false
-    either true = refl
-    either false = refl
+-- the sets before any operation
+module _ {n : ℕ} (rows words : List ℕ) (few : n ≤ 128) (first : words ≡ firstWords rows) (lo hi : ℕ)
+    (able : (a : ℕ) → a < n → holds lo hi a ≡ enabled rows 0 0 words a) where
+  abbrev none : List ℕ
+  none = replicate 774 0
 
-levels-none : (entries : List ℕ) → Levelled entries (replicate 258 0) 0
-unfolding member
-levels-none entries j a h l = subst (λ (i : ℕ). setAt (replicate 258 0) i a ≡ member (take i entries) a) (let z : 0 ≡ j = omega arith in z) (holds-none a)
+  abbrev made : List ℕ
+  made = putAt (putAt none 1 lo hi) 2 lo hi
+
+  made-low : getD made 0 0 ≡ 0
+  made-low = put-word (putAt none 1 lo hi) 2 lo hi 0 (λ e. omega arith) (λ e. omega arith) ∙ put-word none 1 lo hi 0 (λ e. omega arith) (λ e. omega arith)
+
+  made-high : getD made 1 0 ≡ 0
+  made-high = put-word (putAt none 1 lo hi) 2 lo hi 1 (λ e. omega arith) (λ e. omega arith) ∙ put-word none 1 lo hi 1 (λ e. omega arith) (λ e. omega arith)
+
+  stood-none : (a : ℕ) → stands made 0 a ≡ false
+  stood-none a = ap₂ (λ (u v : ℕ). holds u v a) made-low made-high ∙ holds-none a
+
+  one-long : length (putAt none 1 lo hi) ≡ 774
+  one-long = put-length none 1 lo hi ∙ length-replicate {A = ℕ} 774 0
+
+  enables-first : (a : ℕ) → enables made 0 a ≡ holds lo hi a
+  enables-first a =
+      put-other (putAt none 1 lo hi) 2 lo hi 1 (λ e. omega arith) a ∙ put-here none 1 lo hi (omega (arith, length-replicate {A = ℕ} 774 0)) a
+
+  opens-first : (a : ℕ) → opens made 0 a ≡ holds lo hi a
+  opens-first a = put-here (putAt none 1 lo hi) 2 lo hi (omega (arith, one-long)) a
+
+  pub levels-none : {levels : List ℕ} → levels ≡ made → (position : List ℕ) → Levels n rows position levels 0
+  unfolding member wordsFrom
+  levels-none e position = rw e record {
+    stood = λ j a h l. subst (λ (i : ℕ). stands made i a ≡ member (take i position) a) (let z : 0 ≡ j = omega arith in z) (stood-none a);
+    able = λ j a h l.
+        subst (λ (i : ℕ). enables made i a ≡ (not (stands made i a) && enabled rows (low made i) (high made i) (wordsAfter rows (take i position)) a)) (let z : 0 ≡ j = omega arith in z)
+        (enables-first a ∙ able a l
+        ∙ ap (λ (ws : List ℕ). enabled rows 0 0 ws a) first
+        ∙ ap₂ (λ (u v : ℕ). enabled rows u v (firstWords rows) a) (sym made-low) (sym made-high)
+        ∙ ap (λ (b : Bool). not b && enabled rows (low made 0) (high made 0) (firstWords rows) a) (sym (stood-none a)));
+    due = λ j a h l.
+        subst (λ (i : ℕ). opens made i a ≡ (dueOf rows (take i position) (low made i) (high made i) a && enables made i a)) (let z : 0 ≡ j = omega arith in z)
+        (opens-first a ∙ sym (enables-first a) ∙ ap (λ (b : Bool). b && enables made 0 a) (sym (due-first rows (low made 0) (high made 0) a)));
+  }
 
 -- nothing stands yet
-pub kept-none : {n : ℕ} {rows entries words replaced : List ℕ} → n ≤ 128 → words ≡ firstWords rows
-    → Kept n rows entries (replicate 128 255) (replicate 258 0) words replaced 0
+pub kept-none : {n : ℕ} {rows entries levels words replaced : List ℕ} → n ≤ 128 → words ≡ firstWords rows → Levels n rows entries levels 0
+    → Kept n rows entries (replicate 128 255) levels words replaced 0
 unfolding wordsFrom
-kept-none {n} {rows} {entries} few w = record {
+kept-none {n} {rows} {entries} few w h = record {
   placed = placing-none {xs = entries} few refl placed-none .so-far;
-  levelled = levels-none entries;
+  levelled = h;
   remembered = record { now-are = w; were = λ j h. absurd (omega arith) };
 }
 
 -- The invariant: the first j entries pass, and all is kept of them.
-pub record Replaying (n : ℕ) (rows : List ℕ) (size : ℕ) (given entries places stand words replaced : List ℕ) (j : ℕ) : Type 0 where
+pub record Replaying (n : ℕ) (rows : List ℕ) (size : ℕ) (given entries places levels words replaced : List ℕ) (j : ℕ) : Type 0 where
   pub few : n ≤ 128
   pub room : size ≤ n
   pub within : j ≤ size
@@ -55,26 +88,25 @@ pub record Replaying (n : ℕ) (rows : List ℕ) (size : ℕ) (given entries pla
   pub long : length places ≡ 128
   pub wide : length words ≡ 128
   pub apart : distinct n [] (take size given) ≡ true
-  pub kept : Kept n rows given places stand words replaced j
+  pub kept : Kept n rows given places levels words replaced j
   pub passes : (c : List ℕ → Bool) → Tested c n rows → Closed c → c [] ≡ true → c (take j given) ≡ true
 
-module _ {n : ℕ} {rows : List ℕ} {size : ℕ} {given entries places stand words replaced : List ℕ} {j : ℕ}
-    (inv : Replaying n rows size given entries places stand words replaced j) where
+module _ {n : ℕ} {rows : List ℕ} {size : ℕ} {given entries places levels words replaced : List ℕ} {j : ℕ}
+    (inv : Replaying n rows size given entries places levels words replaced j) where
   -- all entries are made
-  pub replay-done : size ≤ j → Replayed n rows size given true entries places stand words replaced
+  pub replay-done : size ≤ j → Replayed n rows size given true entries places levels words replaced
   replay-done l =
       let e : j ≡ size = omega (arith, inv .within) in
       record {
         same = inv .same;
         long = inv .long;
         wide = inv .wide;
-        kept = λ t. subst (λ (k : ℕ). Kept n rows entries places stand words replaced k) e
-            (subst (λ (xs : List ℕ). Kept n rows xs places stand words replaced j) (sym (inv .same)) (inv .kept));
+        kept = λ t. subst (λ (k : ℕ). Kept n rows entries places levels words replaced k) e
+            (subst (λ (xs : List ℕ). Kept n rows xs places levels words replaced j) (sym (inv .same)) (inv .kept));
         means = λ c tested closed empty. sym (subst (λ (k : ℕ). c (take k given) ≡ true) e (inv .passes c tested closed empty));
       }
 
-  module _ (x lo hi dlo dhi : ℕ) (low : j < size) (is : x ≡ getD entries j 0) (set-at : (lo ≡ getD stand (2 * j) 0) × (hi ≡ getD stand (2 * j + 1) 0))
-      (dues : (i : ℕ) → i < 128 → holds dlo dhi i ≡ dueOf rows (take j entries) lo hi i) where
+  module _ (x : ℕ) (below : j < size) (is : x ≡ getD entries j 0) where
     x-is : x ≡ getD given j 0
     x-is = is ∙ ap (λ (xs : List ℕ). getD xs j 0) (inv .same)
 
@@ -86,7 +118,7 @@ module _ {n : ℕ} {rows : List ℕ} {size : ℕ} {given entries places stand wo
 
     front : take j given ++ (x ∷ []) ++ drop (suc j) (take size given) ≡ take size given
     front =
-        ap (λ (ys : List ℕ). ys ++ drop (suc j) (take size given)) (sym one-longer ∙ sym (take-take (suc j) size given low))
+        ap (λ (ys : List ℕ). ys ++ drop (suc j) (take size given)) (sym one-longer ∙ sym (take-take (suc j) size given below))
         ∙ take-append-drop (suc j) (take size given)
 
     x-new : (x < n) × (not (member (take j given) x) ≡ true)
@@ -98,19 +130,17 @@ module _ {n : ℕ} {rows : List ℕ} {size : ℕ} {given entries places stand wo
     new : member (take j given) x ≡ false
     new = not-true (member (take j given) x) (x-new .1)
 
-    stands : Standing (take j given) lo hi
-    stands a l = ap₂ (λ (u v : ℕ). holds u v a) (set-at .0) (set-at .1) ∙ inv .kept .levelled j a (omega arith) l
+    standing : Standing (take j given) (low levels j) (high levels j)
+    standing a l = inv .kept .levelled .stood j a (omega arith) l
 
-    -- the test says whether the first j + 1 entries pass
-    tells : (c : List ℕ → Bool) → Tested c n rows → Closed c → c [] ≡ true → c (take j given ++ (x ∷ [])) ≡ (holds dlo dhi x && fitsBy rows places lo hi words x)
+    -- the tests say whether the first j + 1 entries pass
+    tells : (c : List ℕ → Bool) → Tested c n rows → Closed c → c [] ≡ true
+        → c (take j given ++ (x ∷ [])) ≡ (opens levels j x && not (refused rows places (low levels j) (high levels j) x))
     tells c tested closed empty =
         ap (λ (b : Bool). not b && c (take j given ++ (x ∷ []))) (sym new)
-        ∙ sym (tested .one-more (take j given) places lo hi x (inv .passes c tested closed empty) (inv .kept .placed) stands entry-low)
-        ∙ ap₂ (λ (d s : Bool). d && (not s && fitsBy rows places lo hi (wordsAfter rows (take j given)) x))
-        (ap (λ (xs : List ℕ). dueOf rows (take j xs) lo hi x) (sym (inv .same)) ∙ sym (dues x (omega (arith, inv .few, entry-low)))) (stands x (omega (arith, inv .few, entry-low)) ∙ new)
-        ∙ ap (λ (ws : List ℕ). holds dlo dhi x && fitsBy rows places lo hi ws x) (sym (inv .kept .remembered .now-are))
+        ∙ open-tells (inv .kept .levelled) (omega arith) x entry-low c tested (inv .passes c tested closed empty) (inv .kept .placed)
 
-    fails : (holds dlo dhi x && fitsBy rows places lo hi words x) ≡ false → Replayed n rows size given false entries places stand words replaced
+    fails : (opens levels j x && not (refused rows places (low levels j) (high levels j) x)) ≡ false → Replayed n rows size given false entries places levels words replaced
     fails f = record {
       same = inv .same;
       long = inv .long;
@@ -120,39 +150,39 @@ module _ {n : ℕ} {rows : List ℕ} {size : ℕ} {given entries places stand wo
           clash (closed-front c closed (drop (suc j) (take size given)) (take j given ++ (x ∷ [])) (ap c front ∙ t)) (tells c tested closed empty ∙ f)));
     }
 
-    pub replay-not-due : {r : Bool} → r ≡ holds dlo dhi x → not r ≡ true → Replayed n rows size given false entries places stand words replaced
-    replay-not-due {r} e h = fails (ap (λ (b : Bool). b && fitsBy rows places lo hi words x) (sym e ∙ not-true r h))
+    module _ (open-lo open-hi : ℕ) (open-at : (open-lo ≡ getD levels (2 * (3 * j + 2)) 0) × (open-hi ≡ getD levels (2 * (3 * j + 2) + 1) 0)) {r : Bool} (has : r ≡ holds open-lo open-hi x) where
+      opened : r ≡ opens levels j x
+      opened = has ∙ ap₂ (λ (u v : ℕ). holds u v x) (open-at .0) (open-at .1)
 
-    pub replay-unfit : {r : Bool} → r ≡ fitsBy rows places lo hi words x → not r ≡ true → Replayed n rows size given false entries places stand words replaced
-    replay-unfit {r} e h = fails (go (holds dlo dhi x) (fitsBy rows places lo hi words x) (sym e ∙ not-true r h))
-      where
-        go : (a b : Bool) → b ≡ false → (a && b) ≡ false
-        go true b q = q
-        go false b q = refl
+      pub replay-closed : not r ≡ true → Replayed n rows size given false entries places levels words replaced
+      replay-closed h = fails (ap (λ (b : Bool). b && not (refused rows places (low levels j) (high levels j) x)) (sym opened ∙ not-true r h))
 
-    pub replay-more : {r s : Bool} (lo' hi' : ℕ) → length stand ≡ 258 → length replaced ≡ 128 → r ≡ holds dlo dhi x → not r ≡ false → s ≡ fitsBy rows places lo hi words x → not s ≡ false
-        → ((a : ℕ) → holds lo' hi' a ≡ (holds lo hi a || eqb a x))
-        → {entries' places' stand' words' replaced' : List ℕ} → entries' ≡ set entries j x → places' ≡ set places x j
-        → stand' ≡ set (set stand (2 * (j + 1)) lo') (2 * (j + 1) + 1) hi' → words' ≡ wordsWith rows words x
-        → replaced' ≡ set replaced j (getD words (writtenWord rows x) 0)
-        → Replaying n rows size given entries' places' stand' words' replaced' (j + 1)
-    replay-more {r} {s} lo' hi' table full e1 h1 e2 h2 more {entries'} d e f g i = rw (e, f, g, i) record {
-      few = inv .few;
-      room = inv .room;
-      within = omega arith;
-      same = d ∙ ap₂ (λ (xs : List ℕ) (o : ℕ). set xs j o) (inv .same) x-is ∙ set-getD given j 0;
-      whole = inv .whole;
-      long = length-set places x j ∙ inv .long;
-      wide = length-set words (writtenWord rows x) _ ∙ inv .wide;
-      apart = inv .apart;
-      kept = subst (λ (xs : List ℕ). Kept n rows xs (set places x j) (set (set stand (2 * (j + 1)) lo') (2 * (j + 1) + 1) hi') (wordsWith rows words x) (set replaced j (getD words (writtenWord rows x) 0)) (j + 1))
-          (ap (set given j) x-is ∙ set-getD given j 0)
-          (record {
-            placed = placed-more given j x inside n places (inv .long) (inv .kept .placed) entry-low new;
-            levelled = levelled-more given j x inside stand lo' hi' table (omega (arith, inv .few, inv .room)) (inv .kept .levelled) (member-more (take j given) x lo hi lo' hi' stands more);
-            remembered = remembered-more (inv .kept .remembered) x (inv .whole) full (omega (arith, inv .few, inv .room));
-          });
-      passes = λ c tested closed empty.
-          ap c (ap (λ (k : ℕ). take k given) (add-one j) ∙ one-longer) ∙ tells c tested closed empty
-          ∙ ap₂ _&&_ (sym e1 ∙ not-false r h1) (sym e2 ∙ not-false s h2);
-    }
+      module _ {moved : List ℕ} {s : Bool} {entries' places' levels' words' replaced' : List ℕ}
+          (entered : Entered rows moved x j s entries places levels words replaced entries' places' levels' words' replaced') where
+        pub replay-refused : not s ≡ true → Replayed n rows size given false entries' places' levels' words' replaced'
+        replay-refused h =
+            let (a, b, d, e, f) = entered .left (not-true s h) in
+            rw (a, b, d, e, f) (fails (ap (λ (q : Bool). opens levels j x && q) (sym (entered .told) ∙ not-true s h) ∙ and-false (opens levels j x)))
+
+        pub replay-more : not r ≡ false → not s ≡ false → Moving n rows moved → Replaying n rows size given entries' places' levels' words' replaced' (j + 1)
+        replay-more h1 h2 moving = let (d, e, f, g, made, full) = entered .made (not-false s h2) in rw (e, f, g) record {
+          few = inv .few;
+          room = inv .room;
+          within = omega arith;
+          same = d ∙ ap₂ (λ (xs : List ℕ) (o : ℕ). set xs j o) (inv .same) x-is ∙ set-getD given j 0;
+          whole = inv .whole;
+          long = length-set places x j ∙ inv .long;
+          wide = length-set words (writtenWord rows x) _ ∙ inv .wide;
+          apart = inv .apart;
+          kept = subst (λ (xs : List ℕ). Kept n rows xs (set places x j) levels' (wordsWith rows words x) (set replaced j (getD words (writtenWord rows x) 0)) (j + 1))
+              (ap (set given j) x-is ∙ set-getD given j 0)
+              (record {
+                placed = placed-more given j x inside n places (inv .long) (inv .kept .placed) entry-low new;
+                levelled = levels-more (inv .kept .levelled) moved moving (inv .few) x entry-low inside
+                    (subst (λ (ws : List ℕ). Level rows moved ws x j levels levels') (f ∙ ap (λ (ws : List ℕ). wordsWith rows ws x) (inv .kept .remembered .now-are)) made);
+                remembered = remembered-more (inv .kept .remembered) x (inv .whole) full (omega (arith, inv .few, inv .room));
+              });
+          passes = λ c tested closed empty.
+              ap c (ap (λ (k : ℕ). take k given) (add-one j) ∙ one-longer) ∙ tells c tested closed empty
+              ∙ ap₂ (λ (a b : Bool). a && b) (sym opened ∙ not-false r h1) (sym (entered .told) ∙ not-false s h2);
+        }

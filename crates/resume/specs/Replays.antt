@@ -9,9 +9,9 @@ use Rattle.admit.specs.Fits.{Tested}
 use Rattle.walk.specs.Walks.{Closed, Kept}
 
 -- The entries are as they came. The answer is whether their first `length` pass any test that the rows decide; where they do, all is kept of them.
-pub record Replayed (n : ℕ) (rows : List ℕ) (length : ℕ) (given : List ℕ) (r : Bool) (entries places stand words replaced : List ℕ) : Type 0 where
+pub record Replayed (n : ℕ) (rows : List ℕ) (length : ℕ) (given : List ℕ) (r : Bool) (entries places levels words replaced : List ℕ) : Type 0 where
   pub same : entries ≡ given
   pub long : ListN.length places ≡ 128
   pub wide : ListN.length words ≡ 128
-  pub kept : r ≡ true → Kept n rows entries places stand words replaced length
+  pub kept : r ≡ true → Kept n rows entries places levels words replaced length
   pub means : (c : List ℕ → Bool) → Tested c n rows → Closed c → c [] ≡ true → r ≡ c (take length given)

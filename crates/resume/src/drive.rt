@@ -5,9 +5,11 @@ ghost use mathlib.Core.List.{[]};
 ghost use Prim.Native.Nat.{_<_, _≤_};
 ghost use lib.ListN as ListN;
 ghost use Rattle.base.specs.Lists.{distinct};
+ghost use Rattle.enabled.specs.Moves.{Moving};
 ghost use Rattle.walk.specs.Walks.{Kept};
 ghost use Rattle.positions.specs.Positions.{positionOf};
 ghost use Rattle.resume.specs.Drives.{Driven, Ran};
+use crate::replay::first_level;
 use crate::replay::first_words;
 use crate::replay::replay;
 use places::ABSENT;
@@ -46,19 +48,20 @@ fn run(
     n: usize,
     given: Position,
     placed: [u8; 128],
-    stood: [u64; 258],
+    sets: [u64; 774],
     wrote: [u64; 128],
     over: [u64; 128],
     allowance: u32,
     rows: &[u64; 2304],
+    moved: &[u64; 256],
 ) -> Outcome
-    requires { ⌜ (n ≤ 128) × (given .length < n) × Kept n (now rows) (given .entries) placed stood wrote over (given .length) ⌝ }
+    requires { ⌜ (n ≤ 128) × (given .length < n) × Kept n (now rows) (given .entries) placed sets wrote over (given .length) × Moving n (now rows) (now moved) ⌝ }
     requires { ⌜ (ListN.length (given .entries) ≡ 128) × (ListN.length placed ≡ 128) × (ListN.length wrote ≡ 128) ⌝ }
     ensures { λ r. ⌜ Ran n (now (rows .entry)) (positionOf given) allowance r ⌝ }
 {
     let mut entries = given.entries;
     let mut places = placed;
-    let mut stand = stood;
+    let mut levels = sets;
     let mut words = wrote;
     let mut replaced = over;
     let mut length = given.length;
@@ -69,10 +72,11 @@ fn run(
             &mut entries,
             length,
             &mut places,
-            &mut stand,
+            &mut levels,
             &mut words,
             &mut replaced,
             rows,
+            moved,
         );
         match next {
             WalkAnswer::End => {
@@ -103,10 +107,11 @@ fn run(
         &mut entries,
         length,
         &mut places,
-        &mut stand,
+        &mut levels,
         &mut words,
         &mut replaced,
         rows,
+        moved,
     );
     match last {
         WalkAnswer::End => Outcome {
@@ -128,25 +133,32 @@ fn run(
 }
 
 // From a position of different operations: whether it is consistent, and if so what the search comes to.
-pub fn drive(n: usize, given: Position, allowance: u32, rows: &[u64; 2304]) -> Outcome
-    requires { ⌜ (n ≤ 128) × (given .length ≤ n) × (distinct n [] (positionOf given) ≡ true) × (ListN.length (given .entries) ≡ 128) ⌝ }
+pub fn drive(
+    n: usize,
+    given: Position,
+    allowance: u32,
+    rows: &[u64; 2304],
+    moved: &[u64; 256],
+) -> Outcome
+    requires { ⌜ (n ≤ 128) × (given .length ≤ n) × (distinct n [] (positionOf given) ≡ true) × (ListN.length (given .entries) ≡ 128) × Moving n (now rows) (now moved) ⌝ }
     ensures { λ r. ⌜ Driven n (now (rows .entry)) (positionOf given) allowance r ⌝ }
 {
     let mut entries = given.entries;
     let length = given.length;
     let mut places = [ABSENT; 128];
-    let mut stand = [0u64; 258];
     let mut words = first_words(rows);
+    let mut levels = first_level(n, rows, &words);
     let mut replaced = [0u64; 128];
     let consistent = replay(
         n,
         &mut entries,
         length,
         &mut places,
-        &mut stand,
+        &mut levels,
         &mut words,
         &mut replaced,
         rows,
+        moved,
     );
     if !consistent {
         return stays(false, Verdict::Unfinished, given);
@@ -155,5 +167,15 @@ pub fn drive(n: usize, given: Position, allowance: u32, rows: &[u64; 2304]) -> O
         return stays(true, Verdict::Allowed, given);
     }
     let from = Position { length, entries };
-    run(n, from, places, stand, words, replaced, allowance, rows)
+    run(
+        n,
+        from,
+        places,
+        levels,
+        words,
+        replaced,
+        allowance,
+        rows,
+        moved,
+    )
 }

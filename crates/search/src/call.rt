@@ -13,6 +13,7 @@ ghost use Rattle.search.specs.Calls.{answerMeant, replyOf, checked, sear
 ghost use Rattle.resume.specs.Replies.{verdictMeant};
 ghost use Rattle.search.specs.declared.call.SearchAnswer.the-variants.{Refused};
 use decoded::types::Execution;
+use enabled::moved_by;
 use format::reader::Answer;
 use format::reader::read;
 use links::operations::Operations;
@@ -77,7 +78,8 @@ fn search_on(
     let n = t.count;
     let rows = rows_of(x, t, marks);
     let given = saved_position(buffer, saved);
-    let outcome = drive(n, given, allowance, &rows);
+    let moved = moved_by(n, &rows);
+    let outcome = drive(n, given, allowance, &rows, &moved);
     let consistent = outcome.consistent;
     let verdict = outcome.verdict;
     let steps = outcome.steps;

@@ -40,12 +40,45 @@ pub fn insert(s: Set, i: usize) -> Set
     }
 }
 
+// A set, with a number below 128 where that is wanted.
+pub fn insert_if(s: Set, i: usize, wanted: bool) -> Set
+    ensures { λ r. ⌜ ((k : ℕ) → k < 128 → holds (r .lo) (r .hi) k ≡ (holds (s .lo) (s .hi) k || (wanted && eqb k i))) ⌝ }
+{
+    if !wanted {
+        return s;
+    }
+    if i >= 128 {
+        return s;
+    }
+    insert(s, i)
+}
+
 pub fn minus(a: Set, b: Set) -> Set
     ensures { λ r. ⌜ ((k : ℕ) → holds (r .lo) (r .hi) k ≡ (holds (a .lo) (a .hi) k && not (holds (b .lo) (b .hi) k))) ⌝ }
 {
     Set {
         lo: a.lo ^ (a.lo & b.lo),
         hi: a.hi ^ (a.hi & b.hi),
+    }
+}
+
+// The members of both.
+pub fn common(a: Set, b: Set) -> Set
+    ensures { λ r. ⌜ ((k : ℕ) → holds (r .lo) (r .hi) k ≡ (holds (a .lo) (a .hi) k && holds (b .lo) (b .hi) k)) ⌝ }
+{
+    Set {
+        lo: a.lo & b.lo,
+        hi: a.hi & b.hi,
+    }
+}
+
+// The members of either.
+pub fn union(a: Set, b: Set) -> Set
+    ensures { λ r. ⌜ ((k : ℕ) → holds (r .lo) (r .hi) k ≡ (holds (a .lo) (a .hi) k || holds (b .lo) (b .hi) k)) ⌝ }
+{
+    Set {
+        lo: a.lo | b.lo,
+        hi: a.hi | b.hi,
     }
 }
 
@@ -81,7 +114,7 @@ pub fn first(s: Set, from: usize) -> usize
 
 // The k-th set of a table, two words a set.
 pub fn at(t: &[u64], k: usize) -> Set
-    requires { ⌜ k ≤ 128 ⌝ }
+    requires { ⌜ k < 1024 ⌝ }
     requires { ⌜ 2 * k + 1 < length (now t) ⌝ }
     ensures { λ r. ⌜ (r .lo ≡ getD (now (t .entry)) (2 * k) 0) × (r .hi ≡ getD (now (t .entry)) (2 * k + 1) 0) ⌝ }
 {
@@ -93,7 +126,7 @@ pub fn at(t: &[u64], k: usize) -> Set
 }
 
 pub fn put(t: &mut [u64], k: usize, s: Set)
-    requires { ⌜ k ≤ 128 ⌝ }
+    requires { ⌜ k < 1024 ⌝ }
     requires { ⌜ 2 * k + 1 < length (now t) ⌝ }
     ensures { λ r. ⌜ now (t .exit) ≡ set (set (now (t .entry)) (2 * k) (s .lo)) (2 * k + 1) (s .hi) ⌝ }
 {

@@ -1,89 +1,44 @@
--- The rivals that do not stand, one after the other; the first that must be waited for decides.
-use Prim.Native.Nat.{_-_}
-use native.Mathlib.Omega.{arith}
-use mathlib.Core.Path.{_≡_, sym, ap₂, _∙_}
-use mathlib.Core.Bool.{false, _&&_, _||_}
-use Rattle.base.specs.Below.{anyBelow}
-use Rattle.sets.specs.Set.{holds}
-use Rattle.sets.proofs.Members.{Over, over, over-starts, over-next, over-ends}
-use Rattle.admit.specs.Fits.{waitsFor}
-use Rattle.admit.proofs.TestLaws.{missing-is, refused-by, refused-meets}
+-- None is missing, or one of those that are must be waited for.
+use Rattle.admit.proofs.TestLaws.{missing-is, any-missing, refused-by}
+use Rattle.admit.specs.Fits.{waitsFor, refused}
+use mathlib.Core.Path.{sym, _∙_}
 use borrow.Author.Needs.{needs}
 use Rattle.admit.proofs.is_refused.Statement.{statement}
 use Rattle.admit.proofs.is_refused.Tie as tie
 
-abbrev Inv-loop : tie.InvT-loop
-Inv-loop rows places x missing m₀ m = Over (missing .lo) (missing .hi) m × (anyBelow m (λ i. holds (missing .lo) (missing .hi) i && waitsFor rows places x i) ≡ false)
-
-abbrev μ-loop : tie.MeasureT-loop
-μ-loop rows places x missing m₀ m = 128 - m
-
-set-of-requires : tie.Need-set-of-requires Inv-loop μ-loop
+set-of-requires : tie.Need-set-of-requires
 set-of-requires c κs = search needs
 
-minus-requires : tie.Need-minus-requires Inv-loop μ-loop
+subset-requires : tie.Need-subset-requires
+subset-requires c κs = search needs
+
+returns : tie.Need-returns
+unfolding refused
+returns c =
+    let a = c .before .before .before .args in
+    sym (any-missing (a .rows .now) 4 (a .x) (a .stand .lo) (a .stand .hi) (c .before .before .set-of .ensures .0) (c .before .before .set-of .ensures .1) (c .before .subset .ensures) (c .if1 .taken) (waitsFor (a .rows .now) (a .places .now) (a .x)))
+
+minus-requires : tie.Need-minus-requires
 minus-requires c κs = search needs
 
-first-requires : tie.Need-first-requires Inv-loop μ-loop
-first-requires c κs = search needs
+waits-for-any-requires : tie.Need-waits-for-any-requires
+waits-for-any-requires c κs = search needs
 
-loop-holds : tie.Need-loop-holds Inv-loop μ-loop
-loop-holds c =
-    let a = c .before .before .before .args in
-    let s = c .before .minus .result in
-    (over (s .lo) (s .hi) 0 (c .first .ensures), over-starts (s .lo) (s .hi) (waitsFor (a .rows .now) (a .places .now) (a .x)) (c .first .ensures))
-
-waits-for-requires : tie.Need-waits-for-requires Inv-loop μ-loop
-waits-for-requires c κs = search needs
-
-returns : tie.Need-returns Inv-loop μ-loop
-returns c =
-    let a = c .before .before .before .before .before .before .before .args in
-    let s = c .before .before .before .before .before .minus .result in
-    refused-meets (a .rows .now) (a .places .now) (a .stand .lo) (a .stand .hi) (a .x) (s .lo) (s .hi) (c .before .before .before .loop .m)
-    (missing-is (a .rows .now) 4 (a .x) (a .stand .lo) (a .stand .hi) (c .before .before .before .before .before .before .set-of .result .lo) (c .before .before .before .before .before .before .set-of .result .hi) (s .lo) (s .hi) (c .before .before .before .before .before .before .set-of .ensures .0) (c .before .before .before .before .before .before .set-of .ensures .1) (c .before .before .before .before .before .minus .ensures))
-    (c .before .before .loop-test .taken) (c .before .before .before .loop .inv .0) (sym (c .before .waits-for .ensures) ∙ c .if1 .taken)
-
-add-from : tie.Need-add-from Inv-loop μ-loop
-add-from c = search needs
-
-first-requires-2 : tie.Need-first-requires-2 Inv-loop μ-loop
-first-requires-2 c κs = search needs
-
-loop-less : tie.Need-loop-less Inv-loop μ-loop
-loop-less c = omega (arith, c .first2 .ensures .onward, c .first2 .ensures .within)
-
-loop-again : tie.Need-loop-again Inv-loop μ-loop
-loop-again c =
-    let a = c .before .before .before .before .before .before .before .before .args in
-    let s = c .before .before .before .before .before .before .minus .result in (
-      over (s .lo) (s .hi) _ (c .first2 .ensures),
-      over-next (s .lo) (s .hi) (waitsFor (a .rows .now) (a .places .now) (a .x)) (c .before .before .before .before .loop .inv .0) (c .before .before .before .loop-test .taken) (c .first2 .ensures)
-          ∙ ap₂ _||_ (c .before .before .before .before .loop .inv .1) (sym (c .before .before .waits-for .ensures) ∙ c .before .if1 .left),
-    )
-
-returns-2 : tie.Need-returns-2 Inv-loop μ-loop
+returns-2 : tie.Need-returns-2
 returns-2 c =
     let a = c .before .before .before .before .before .args in
-    let s = c .before .before .before .minus .result in
-    sym (c .before .loop .inv .1) ∙ over-ends (s .lo) (s .hi) (waitsFor (a .rows .now) (a .places .now) (a .x)) (c .before .loop .inv .0) (c .loop-test .left)
+    let s = c .before .minus .result in
+    c .waits-for-any .ensures
     ∙ refused-by (a .rows .now) (a .places .now) (a .stand .lo) (a .stand .hi) (a .x) (s .lo) (s .hi)
-    (missing-is (a .rows .now) 4 (a .x) (a .stand .lo) (a .stand .hi) (c .before .before .before .before .set-of .result .lo) (c .before .before .before .before .set-of .result .hi) (s .lo) (s .hi) (c .before .before .before .before .set-of .ensures .0) (c .before .before .before .before .set-of .ensures .1) (c .before .before .before .minus .ensures))
+    (missing-is (a .rows .now) 4 (a .x) (a .stand .lo) (a .stand .hi) (c .before .before .before .before .set-of .result .lo) (c .before .before .before .before .set-of .result .hi) (s .lo) (s .hi) (c .before .before .before .before .set-of .ensures .0) (c .before .before .before .before .set-of .ensures .1) (c .before .minus .ensures))
 
 pub is-refused-spec : {M : Type 1} → statement M
 is-refused-spec =
     tie.close
     (tie.spec
-    Inv-loop
-    μ-loop
     set-of-requires
-    minus-requires
-    first-requires
-    loop-holds
-    waits-for-requires
+    subset-requires
     returns
-    add-from
-    first-requires-2
-    loop-less
-    loop-again
+    minus-requires
+    waits-for-any-requires
     returns-2)

@@ -1,6 +1,6 @@
--- Three entries, and the word that was there.
-use mathlib.Core.Path.{refl, ap}
+-- Three entries and the sets of a level.
 use lib.ListN.{set}
+use mathlib.Core.Path.{refl, ap}
 use borrow.Author.Needs.{needs}
 use Rattle.walk.proofs.add_entry.Statement.{statement}
 use Rattle.walk.proofs.add_entry.Tie as tie
@@ -26,6 +26,9 @@ mul-replaced c = search needs
 slice-write-replaced : tie.Need-slice-write-replaced
 slice-write-replaced c = search needs
 
+add-level-requires : tie.Need-add-level-requires
+add-level-requires c κs = search needs
+
 same-length : tie.Need-same-length
 same-length c = search needs
 
@@ -40,8 +43,8 @@ same-length-4 c = search needs
 
 returns : tie.Need-returns
 returns c =
-    let a = c .before .before .before .before .before .before .before .before .args in
-    (refl, refl, c .before .before .write .ensures .1, ap (set (a .replaced .now) (a .k)) (c .before .before .write .ensures .0))
+    let a = c .before .before .before .before .before .before .before .before .before .before .before .args in
+    (refl, refl, c .before .before .before .before .before .write .ensures .1, ap (set (a .replaced .now) (a .k)) (c .before .before .before .before .before .write .ensures .0), c .before .before .add-level .ensures)
 
 pub add-entry-spec : {M : Type 1} → statement M
 add-entry-spec =
@@ -54,6 +57,7 @@ add-entry-spec =
     write-requires
     mul-replaced
     slice-write-replaced
+    add-level-requires
     same-length
     same-length-2
     same-length-3

@@ -10,11 +10,11 @@ use Rattle.resume.proofs.drive.run.Statement.{statement}
 use Rattle.resume.proofs.drive.run.Tie as tie
 
 abbrev Inv-loop : tie.InvT-loop
-Inv-loop n given allowance rows entries₀ places₀ stand₀ words₀ replaced₀ length₀ steps₀ entries places stand words replaced length steps =
-    Going n rows (positionOf given) allowance stand entries places words replaced length steps × (given .length ≤ n) × (ListN.length (given .entries) ≡ 128)
+Inv-loop n given allowance rows moved entries₀ places₀ levels₀ words₀ replaced₀ length₀ steps₀ entries places levels words replaced length steps =
+    Going n rows (positionOf given) allowance levels entries places words replaced length steps × (given .length ≤ n) × (ListN.length (given .entries) ≡ 128)
 
 abbrev μ-loop : tie.MeasureT-loop
-μ-loop n given allowance rows entries₀ places₀ stand₀ words₀ replaced₀ length₀ steps₀ entries places stand words replaced length steps =
+μ-loop n given allowance rows moved entries₀ places₀ levels₀ words₀ replaced₀ length₀ steps₀ entries places levels words replaced length steps =
     allowance - steps
 
 loop-holds : tie.Need-loop-holds Inv-loop μ-loop
@@ -25,7 +25,7 @@ loop-holds c =
 walk-requires : tie.Need-walk-requires Inv-loop μ-loop
 walk-requires c κs =
     let inv = c .before .before .before .before .before .before .loop .inv .0 in
-    ((inv .few, inv .room, inv .kept), (inv .whole, inv .long, inv .wide))
+    ((inv .few, inv .room, inv .kept, c .before .before .before .before .before .before .before .before .pre .0 .3), (inv .whole, inv .long, inv .wide))
 
 enum-told : tie.Need-enum-told Inv-loop μ-loop
 enum-told c = search needs
@@ -59,7 +59,7 @@ loop-again c = (going-on (c .before .before .before .before .before .before .bef
 walk-requires-2 : tie.Need-walk-requires-2 Inv-loop μ-loop
 walk-requires-2 c κs =
     let inv = c .before .before .before .before .before .before .loop .inv .0 in
-    ((inv .few, inv .room, inv .kept), (inv .whole, inv .long, inv .wide))
+    ((inv .few, inv .room, inv .kept, c .before .before .before .before .before .before .before .before .pre .0 .3), (inv .whole, inv .long, inv .wide))
 
 enum-told-2 : tie.Need-enum-told-2 Inv-loop μ-loop
 enum-told-2 c = search needs

@@ -1,19 +1,20 @@
 -- Each turn tests one entry and makes what is kept of one more.
-use Prim.Native.Nat.{_-_}
-use native.Mathlib.Omega.{arith}
-use mathlib.Core.Path.{refl}
-use Rattle.resume.proofs.ReplayLaws.{Replaying, replay-done, entry-low, replay-not-due, replay-unfit, replay-more}
-use mathlib.Core.Path.{ap}
 use lib.ListN.{length}
+use Rattle.resume.proofs.ReplayLaws.{Replaying, replay-done, entry-low, replay-closed, replay-refused, replay-more}
+use mathlib.Core.Path.{refl, ap, _∙_}
+use native.Mathlib.Omega.{arith}
+use Prim.Native.Nat.{_-_}
 use borrow.Author.Needs.{needs}
 use Rattle.resume.proofs.replay.replay.Statement.{statement}
 use Rattle.resume.proofs.replay.replay.Tie as tie
 
 abbrev Inv-loop : tie.InvT-loop
-Inv-loop n entries₀ length places₀ stand₀ words₀ replaced₀ rows j₀ entries places stand words replaced j = Replaying n rows length entries₀ entries places stand words replaced j
+Inv-loop n entries₀ length places₀ levels₀ words₀ replaced₀ rows moved j₀ entries places levels words replaced j =
+    Replaying n rows length entries₀ entries places levels words replaced j
 
 abbrev μ-loop : tie.MeasureT-loop
-μ-loop n entries₀ length places₀ stand₀ words₀ replaced₀ rows j₀ entries places stand words replaced j = length - j
+μ-loop n entries₀ length places₀ levels₀ words₀ replaced₀ rows moved j₀ entries places levels words replaced j =
+    length - j
 
 loop-holds : tie.Need-loop-holds Inv-loop μ-loop
 loop-holds c =
@@ -37,67 +38,50 @@ element-copy-out-wide c = search needs
 wide-requires : tie.Need-wide-requires Inv-loop μ-loop
 wide-requires c κs = search needs
 
-at-requires : tie.Need-at-requires Inv-loop μ-loop
-at-requires c κs = (omega (arith, c .before .before .before .before .loop-test .taken, c .before .before .before .before .before .loop .inv .room, c .before .before .before .before .before .loop .inv .few), omega (arith, c .before .before .before .before .loop-test .taken, c .before .before .before .before .before .loop .inv .room, c .before .before .before .before .before .loop .inv .few))
+mul-at : tie.Need-mul-at Inv-loop μ-loop
+mul-at c =
+    omega (arith, c .before .before .before .before .loop-test .taken, c .before .before .before .before .before .loop .inv .room, c .before .before .before .before .before .loop .inv .few)
 
-due-at-requires : tie.Need-due-at-requires Inv-loop μ-loop
-due-at-requires c κs =
-    let inv = c .before .before .before .before .before .before .before .loop .inv in
-    (omega (arith, inv .few, inv .room, c .before .before .before .before .before .before .loop-test .taken), omega (arith, inv .few, inv .room, c .before .before .before .before .before .before .loop-test .taken, inv .whole, ap length (inv .same)))
+add-at : tie.Need-add-at Inv-loop μ-loop
+add-at c =
+    omega (arith, c .before .before .before .before .loop-test .taken, c .before .before .before .before .before .loop .inv .room, c .before .before .before .before .before .loop .inv .few)
+
+at-requires : tie.Need-at-requires Inv-loop μ-loop
+at-requires c κs =
+    let inv = c .before .before .before .before .before .loop .inv in (omega (arith, c .before .before .before .before .loop-test .taken, inv .room, inv .few), omega (arith, c .before .before .before .before .loop-test .taken, inv .room, inv .few, c .at-arg2 .given))
 
 has-requires : tie.Need-has-requires Inv-loop μ-loop
 has-requires c κs =
-    let inv = c .before .before .before .before .before .before .before .before .loop .inv in
-    omega (arith, inv .few, entry-low inv (c .before .before .before .before .before .wide .result) (c .before .before .at .result .lo) (c .before .before .at .result .hi) (c .due-at .result .lo) (c .due-at .result .hi) (c .before .before .before .before .before .before .before .loop-test .taken) (c .before .before .before .before .before .wide .ensures .0) (c .before .before .at .ensures) (c .due-at .ensures))
+    let inv = c .before .before .before .before .before .before .loop .inv in omega (arith, inv .few, entry-low inv (c .before .before .before .wide .result) (c .before .before .before .before .before .loop-test .taken) (c .before .before .before .wide .ensures .0))
 
 returns : tie.Need-returns Inv-loop μ-loop
 returns c =
-    replay-not-due (c .before .before .before .before .before .before .before .before .before .before .loop .inv) (c .before .before .before .before .before .before .before .wide .result) (c .before .before .before .before .at .result .lo) (c .before .before .before .before .at .result .hi) (c .before .before .due-at .result .lo) (c .before .before .due-at .result .hi) (c .before .before .before .before .before .before .before .before .before .loop-test .taken) (c .before .before .before .before .before .before .before .wide .ensures .0) (c .before .before .before .before .at .ensures) (c .before .before .due-at .ensures)
-    (c .before .has .ensures) (c .if1 .taken)
+    replay-closed (c .before .before .before .before .before .before .before .before .loop .inv) (c .before .before .before .before .before .wide .result) (c .before .before .before .before .before .before .before .loop-test .taken) (c .before .before .before .before .before .wide .ensures .0) (c .before .before .at .result .lo) (c .before .before .at .result .hi) (c .before .before .at .ensures) (c .before .has .ensures) (c .if1 .taken)
 
-fits-requires : tie.Need-fits-requires Inv-loop μ-loop
-fits-requires c κs =
-    let inv = c .before .before .before .before .before .before .before .before .before .before .before .before .loop .inv in
-    omega (arith, inv .few, entry-low inv (c .before .before .before .before .before .before .before .before .before .wide .result) (c .before .before .before .before .before .before .at .result .lo) (c .before .before .before .before .before .before .at .result .hi) (c .before .before .before .before .due-at .result .lo) (c .before .before .before .before .due-at .result .hi) (c .before .before .before .before .before .before .before .before .before .before .before .loop-test .taken) (c .before .before .before .before .before .before .before .before .before .wide .ensures .0) (c .before .before .before .before .before .before .at .ensures) (c .before .before .before .before .due-at .ensures))
+enter-requires : tie.Need-enter-requires Inv-loop μ-loop
+enter-requires c κs =
+    let inv = c .before .before .before .before .before .before .before .before .before .before .before .before .before .loop .inv in
+    (omega (arith, inv .few, inv .room, c .before .before .before .before .before .before .before .before .before .before .before .before .loop-test .taken), omega (arith, inv .few, entry-low inv (c .before .before .before .before .before .before .before .before .before .before .wide .result) (c .before .before .before .before .before .before .before .before .before .before .before .before .loop-test .taken) (c .before .before .before .before .before .before .before .before .before .before .wide .ensures .0)), ap length (inv .same) ∙ inv .whole, inv .long, inv .wide)
 
 returns-2 : tie.Need-returns-2 Inv-loop μ-loop
 returns-2 c =
-    replay-unfit (c .before .before .before .before .before .before .before .before .before .before .before .before .before .before .loop .inv) (c .before .before .before .before .before .before .before .before .before .before .before .wide .result) (c .before .before .before .before .before .before .before .before .at .result .lo) (c .before .before .before .before .before .before .before .before .at .result .hi) (c .before .before .before .before .before .before .due-at .result .lo) (c .before .before .before .before .before .before .due-at .result .hi) (c .before .before .before .before .before .before .before .before .before .before .before .before .before .loop-test .taken) (c .before .before .before .before .before .before .before .before .before .before .before .wide .ensures .0) (c .before .before .before .before .before .before .before .before .at .ensures) (c .before .before .before .before .before .before .due-at .ensures)
-    (c .before .fits2 .ensures) (c .if2 .taken)
+    replay-refused (c .before .before .before .before .before .before .before .before .before .before .before .before .before .before .before .loop .inv) (c .before .before .before .before .before .before .before .before .before .before .before .before .wide .result) (c .before .before .before .before .before .before .before .before .before .before .before .before .before .before .loop-test .taken) (c .before .before .before .before .before .before .before .before .before .before .before .before .wide .ensures .0) (c .before .before .before .before .before .before .before .before .before .at .result .lo) (c .before .before .before .before .before .before .before .before .before .at .result .hi) (c .before .before .before .before .before .before .before .before .before .at .ensures) (c .before .before .before .before .before .before .before .before .has .ensures) (c .before .enter .ensures) (c .if2 .taken)
 
-add-entry-requires : tie.Need-add-entry-requires Inv-loop μ-loop
-add-entry-requires c κs =
-    let inv = c .before .before .before .before .before .before .before .before .before .before .before .before .before .before .before .before .before .before .loop .inv in (
-      omega (arith, inv .few, inv .room, c .before .before .before .before .before .before .before .before .before .before .before .before .before .before .before .before .before .loop-test .taken),
-      omega (arith, inv .few, entry-low inv (c .before .before .before .before .before .before .before .before .before .before .before .before .before .before .before .wide .result) (c .before .before .before .before .before .before .before .before .before .before .before .before .at .result .lo) (c .before .before .before .before .before .before .before .before .before .before .before .before .at .result .hi) (c .before .before .before .before .before .before .before .before .before .before .due-at .result .lo) (c .before .before .before .before .before .before .before .before .before .before .due-at .result .hi) (c .before .before .before .before .before .before .before .before .before .before .before .before .before .before .before .before .before .loop-test .taken) (c .before .before .before .before .before .before .before .before .before .before .before .before .before .before .before .wide .ensures .0) (c .before .before .before .before .before .before .before .before .before .before .before .before .at .ensures) (c .before .before .before .before .before .before .before .before .before .before .due-at .ensures)),
-      c .before .before .before .add-entry-arg .given .0 .1,
-      inv .long,
-      inv .wide,
-      c .add-entry-arg4 .given .0 .1,
-    )
-
-add-size : tie.Need-add-size Inv-loop μ-loop
-add-size c = omega (arith, c .before .before .before .before .before .before .before .before .before .before .before .before .before .before .before .before .before .before .before .loop .inv .few, c .before .before .before .before .before .before .before .before .before .before .before .before .before .before .before .before .before .before .before .loop .inv .room, c .before .before .before .before .before .before .before .before .before .before .before .before .before .before .before .before .before .before .loop-test .taken)
-
-insert-requires : tie.Need-insert-requires Inv-loop μ-loop
-insert-requires c κs =
-    let inv = c .before .before .before .before .before .before .before .before .before .before .before .before .before .before .before .before .before .before .before .before .loop .inv in
-    omega (arith, inv .few, entry-low inv (c .before .before .before .before .before .before .before .before .before .before .before .before .before .before .before .before .before .wide .result) (c .before .before .before .before .before .before .before .before .before .before .before .before .before .before .at .result .lo) (c .before .before .before .before .before .before .before .before .before .before .before .before .before .before .at .result .hi) (c .before .before .before .before .before .before .before .before .before .before .before .before .due-at .result .lo) (c .before .before .before .before .before .before .before .before .before .before .before .before .due-at .result .hi) (c .before .before .before .before .before .before .before .before .before .before .before .before .before .before .before .before .before .before .before .loop-test .taken) (c .before .before .before .before .before .before .before .before .before .before .before .before .before .before .before .before .before .wide .ensures .0) (c .before .before .before .before .before .before .before .before .before .before .before .before .before .before .at .ensures) (c .before .before .before .before .before .before .before .before .before .before .before .before .due-at .ensures))
-
-put-requires : tie.Need-put-requires Inv-loop μ-loop
-put-requires c κs = (omega (arith, c .before .before .before .before .before .before .before .before .before .before .before .before .before .before .before .before .before .before .before .before .before .loop .inv .few, c .before .before .before .before .before .before .before .before .before .before .before .before .before .before .before .before .before .before .before .before .before .loop .inv .room, c .before .before .before .before .before .before .before .before .before .before .before .before .before .before .before .before .before .before .before .before .loop-test .taken), omega (arith, c .before .before .before .before .before .before .before .before .before .before .before .before .before .before .before .before .before .before .before .before .before .loop .inv .few, c .before .before .before .before .before .before .before .before .before .before .before .before .before .before .before .before .before .before .before .before .before .loop .inv .room, c .before .before .before .before .before .before .before .before .before .before .before .before .before .before .before .before .before .before .before .before .loop-test .taken, c .before .put-arg .given .0 .1))
+add-j : tie.Need-add-j Inv-loop μ-loop
+add-j c =
+    omega (arith, c .before .before .before .before .before .before .before .before .before .before .before .before .before .before .loop-test .taken, c .before .before .before .before .before .before .before .before .before .before .before .before .before .before .before .loop .inv .room, c .before .before .before .before .before .before .before .before .before .before .before .before .before .before .before .loop .inv .few)
 
 loop-less : tie.Need-loop-less Inv-loop μ-loop
-loop-less c = omega (arith, c .before .before .before .before .before .before .before .before .before .before .before .before .before .before .before .before .before .before .before .before .before .loop-test .taken)
+loop-less c =
+    omega (arith, c .before .before .before .before .before .before .before .before .before .before .before .before .before .before .loop-test .taken)
 
 loop-again : tie.Need-loop-again Inv-loop μ-loop
 loop-again c =
-    replay-more (c .before .before .before .before .before .before .before .before .before .before .before .before .before .before .before .before .before .before .before .before .before .before .loop .inv) (c .before .before .before .before .before .before .before .before .before .before .before .before .before .before .before .before .before .before .before .wide .result) (c .before .before .before .before .before .before .before .before .before .before .before .before .before .before .before .before .at .result .lo) (c .before .before .before .before .before .before .before .before .before .before .before .before .before .before .before .before .at .result .hi) (c .before .before .before .before .before .before .before .before .before .before .before .before .before .before .due-at .result .lo) (c .before .before .before .before .before .before .before .before .before .before .before .before .before .before .due-at .result .hi) (c .before .before .before .before .before .before .before .before .before .before .before .before .before .before .before .before .before .before .before .before .before .loop-test .taken) (c .before .before .before .before .before .before .before .before .before .before .before .before .before .before .before .before .before .before .before .wide .ensures .0) (c .before .before .before .before .before .before .before .before .before .before .before .before .before .before .before .before .at .ensures) (c .before .before .before .before .before .before .before .before .before .before .before .before .before .before .due-at .ensures)
-    (c .before .insert .result .lo) (c .before .insert .result .hi) (c .before .before .put-arg .given .0 .1) (c .before .before .before .before .add-entry-arg4 .given .0 .1) (c .before .before .before .before .before .before .before .before .before .before .before .before .before .has .ensures) (c .before .before .before .before .before .before .before .before .before .before .before .before .if1 .left) (c .before .before .before .before .before .before .before .before .before .fits2 .ensures) (c .before .before .before .before .before .before .before .before .if2 .left) (c .before .insert .ensures)
-    (c .before .before .before .add-entry .ensures .0) (c .before .before .before .add-entry .ensures .1) (c .put .ensures) (c .before .before .before .add-entry .ensures .2) (c .before .before .before .add-entry .ensures .3)
+    replay-more (c .before .before .before .before .before .before .before .before .before .before .before .before .before .before .before .loop .inv) (c .before .before .before .before .before .before .before .before .before .before .before .before .wide .result) (c .before .before .before .before .before .before .before .before .before .before .before .before .before .before .loop-test .taken) (c .before .before .before .before .before .before .before .before .before .before .before .before .wide .ensures .0) (c .before .before .before .before .before .before .before .before .before .at .result .lo) (c .before .before .before .before .before .before .before .before .before .at .result .hi) (c .before .before .before .before .before .before .before .before .before .at .ensures) (c .before .before .before .before .before .before .before .before .has .ensures) (c .before .enter .ensures) (c .before .before .before .before .before .before .before .if1 .left) (c .if2 .left) (c .before .before .before .before .before .before .before .before .before .before .before .before .before .before .before .before .pre .0 .4)
 
 returns-3 : tie.Need-returns-3 Inv-loop μ-loop
-returns-3 c = replay-done (c .before .loop .inv) (c .loop-test .left)
+returns-3 c =
+    replay-done (c .before .loop .inv) (c .loop-test .left)
 
 pub replay-spec : {M : Type 1} → statement M
 replay-spec =
@@ -108,16 +92,14 @@ replay-spec =
     loop-holds
     element-copy-out-wide
     wide-requires
+    mul-at
+    add-at
     at-requires
-    due-at-requires
     has-requires
     returns
-    fits-requires
+    enter-requires
     returns-2
-    add-entry-requires
-    add-size
-    insert-requires
-    put-requires
+    add-j
     loop-less
     loop-again
     returns-3)
