@@ -27,10 +27,10 @@ use Rattle.links.specs.Compiled.{Compiled}
 use Rattle.links.proofs.LinkLaws.{operation-role, operation-of}
 use Rattle.links.proofs.CompiledLaws.{operation-there, owner-there}
 use Rattle.admit.specs.Rows.{partner}
-use Rattle.constraints.specs.Rows.{remotesFrom, partnerAt}
+use Rattle.constraints.specs.Rows.{remotesFrom, partnerOf, partnerAt}
 
 -- an operation has the number of its instruction's role
-operation-number : (e : model.Execution) (a : Operation) → List·Memᴰ a (allOperations e) → a .number ≡ numberOf (a .instruction) (a .role)
+pub operation-number : (e : model.Execution) (a : Operation) → List·Memᴰ a (allOperations e) → a .number ≡ numberOf (a .instruction) (a .role)
 unfolding allOperations operationsOf
 operation-number e a m =
     let (i, mi, ma) = of-for (operationsOf (e .processors)) (e .instructions) m in
@@ -84,31 +84,19 @@ module _ (e : model.Execution) (w : Instruction) where
   in-remotes q l = in-member (Memᴰ·map (λ q. numberOf w (RV q)) (processor-in e q l))
 
 -- the parts of the test by the tables
-module _ (x : Execution) (t : Operations) (marks : List (List ℕ)) (o a : ℕ) where
-  abbrev role : ℕ
-  role = getD (t .roles) o 0
-
-  abbrev number : ℕ
-  number = getD (t .owners) o 0
-
-  pub no-remote : role < 3 → false ≡ partnerAt x t marks o a
-  unfolding partnerAt
+module _ (marks role first processors a : ℕ) where
+  pub no-remote : role < 3 → false ≡ partnerOf marks role first processors a
+  unfolding partnerOf
   no-remote l = sym (rw (lt-ltb role 3 l) refl)
 
-  module _ {w : ℕ} {r : Bool} (e : w ≡ number) (f : r ≡ hasMark (markAt marks w w) 512) where
-    pub mark-read : r ≡ hasMark (markAt marks number number) 512
-    mark-read = f ∙ ap (λ (v : ℕ). hasMark (markAt marks v v) 512) e
+  module _ {r : Bool} (f : r ≡ hasMark marks 512) where
+    pub no-atomic : not r ≡ true → false ≡ partnerOf marks role first processors a
+    unfolding partnerOf
+    no-atomic n = sym (rw (sym f ∙ not-true r n) (and-false (not (ltb role 3))))
 
-    pub no-atomic : not r ≡ true → false ≡ partnerAt x t marks o a
-    unfolding partnerAt
-    no-atomic n = sym (rw (sym mark-read ∙ not-true r n) (and-false (not (ltb role 3))))
-
-    pub atomic-remotes : {first : ℕ} → 3 ≤ role → not r ≡ false → first ≡ getD (x .instructions .firsts) w 0
-        → member (remotesFrom first (x .processors)) a ≡ partnerAt x t marks o a
-    unfolding partnerAt
-    atomic-remotes {first} l n g =
-        sym (rw (le-ltb role 3 l, sym mark-read ∙ not-false r n)
-        (ap (λ (k : ℕ). member (remotesFrom k (x .processors)) a) (sym (g ∙ ap (λ (v : ℕ). getD (x .instructions .firsts) v 0) e))))
+    pub atomic-remotes : 3 ≤ role → not r ≡ false → member (remotesFrom first processors) a ≡ partnerOf marks role first processors a
+    unfolding partnerOf
+    atomic-remotes l n = sym (rw (le-ltb role 3 l, sym f ∙ not-false r n) refl)
 
 -- the tables of an execution
 module _ {x : Execution} {t : Operations} {marks : List (List ℕ)} (h : Compiled x t marks) (accepted : Accepted (executionOf x)) where
@@ -166,7 +154,7 @@ module _ {x : Execution} {t : Operations} {marks : List (List ℕ)} (h : Compile
 
       -- by the tables: o's instruction is an st.rel to WB, and o one of its RVs
       tables-say : partnerAt x t marks o a ≡ true → partner x o a ≡ true
-      unfolding partnerAt partner
+      unfolding partnerAt partnerOf partner
       tables-say k =
           let (k1, k2) = and-parts _ _ k in
           let (mark, k3) = and-parts _ _ k2 in
@@ -181,7 +169,7 @@ module _ {x : Execution} {t : Operations} {marks : List (List ℕ)} (h : Compile
 
       -- by the rules: an st.rel to WB that has o among its RVs is o's instruction
       rules-say : partner x o a ≡ true → partnerAt x t marks o a ≡ true
-      unfolding partnerAt partner stores
+      unfolding partnerAt partnerOf partner stores
       rules-say k =
           let (w, mw, k1) = any-witness asked (stores (executionOf x)) k in
           let (k2, k3) = and-parts (isRelease (w .kind) && inWB (executionOf x) w) _ k1 in

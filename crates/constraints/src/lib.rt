@@ -1,74 +1,137 @@
 // The sets of operations that the search reads, for each operation.
 ghost use mathlib.Core.Path.{_≡_};
-ghost use mathlib.Core.Bool.{_&&_, _||_};
+ghost use mathlib.Core.Bool.{true, false, _&&_, _||_};
 ghost use Prim.Native.Nat.{ℕ, suc, _+_, _/_, _<_, _≤_};
 ghost use lib.ListN.{getD};
-ghost use lib.Dec.{eqb, ltb};
+ghost use lib.Dec.{eqb, leb, ltb};
 ghost use Rattle.base.specs.Lists.{member};
-ghost use Rattle.model.specs.Execution.{isStore, kindOf, operations};
-ghost use Rattle.model.proofs.Accepted.{Accepted};
-ghost use Rattle.decoded.specs.Decoded.{executionOf};
-ghost use Rattle.links.specs.Compiled.{Compiled};
+ghost use Rattle.model.specs.Execution.{Role, isStore, kindOf};
+ghost use Rattle.decoded.specs.Kinds.{roleNumbered};
+ghost use Rattle.marks.specs.Marks.{hasMark, atomicMark, markAt};
 ghost use Rattle.sets.specs.Set.{holds};
 ghost use Rattle.base.specs.Below.{anyBelow};
-ghost use Rattle.admit.specs.Rows.{rivalBy, rivalOf, bypassOf};
-ghost use Rattle.links.specs.Linked.{linkedAt};
-ghost use Rattle.constraints.specs.Rows.{remotesFrom, partnerAt};
+ghost use Rattle.admit.specs.Rows.{rivalBy};
+ghost use Rattle.links.specs.Linked.{linkedBy};
+ghost use Rattle.constraints.specs.Rows.{remotesFrom, partnerOf, remoteLinked, linkedFrom, linkedOf, besideBy};
 use decoded::kind::ROLE_R;
 use decoded::kind::ROLE_RV;
 use decoded::kind::is_store;
 use decoded::kind::kind_of;
-use decoded::types::Execution;
-use decoded::types::Instructions;
+use decoded::kind::role_of;
 use decoded::types::wide;
 use decoded::types::wide16;
 use links::link::is_linked;
-use links::operations::Operations;
 use marks::table::ATOMIC;
 use marks::table::BYPASS;
 use marks::table::CONFLICT;
+use marks::table::FENCE;
+use marks::table::OVERLAP;
+use marks::table::RELEASE;
+use marks::table::SAME;
 use marks::table::both;
 use marks::table::has_mark;
 use sets::Set;
 use sets::insert;
+use sets::insert_if;
 
-// A set, with operation a where that is linked.
-fn with_linked(set: Set, a: usize, linked: bool) -> Set
-    requires { ⌜ a < 128 ⌝ }
-    ensures { λ r. ⌜ ((k : ℕ) → holds (r .lo) (r .hi) k ≡ (holds (set .lo) (set .hi) k || (eqb k a && linked))) ⌝ }
+// A set, with all RVs of a store, by the number of its LV.
+fn with_every_remote(set: Set, first: usize, processors: usize) -> Set
+    requires { ⌜ (first < 65536) × (processors ≤ 8) ⌝ }
+    ensures { λ r. ⌜ ((a : ℕ) → a < 128 → holds (r .lo) (r .hi) a ≡ (holds (set .lo) (set .hi) a || (leb (1 + first) a && ltb a (1 + first + processors)))) ⌝ }
 {
-    if linked { insert(set, a) } else { set }
+    let mut more = set;
+    for to in 0..processors {
+        let rv = 1 + first + to;
+        more = insert_if(more, rv, true);
+    }
+    more
 }
 
-// A set, with operation a where that is wanted.
-fn with_operation(set: Set, a: usize, wanted: bool) -> Set
-    ensures { λ r. ⌜ ((k : ℕ) → k < 128 → holds (r .lo) (r .hi) k ≡ (holds (set .lo) (set .hi) k || (wanted && eqb k a))) ⌝ }
+// A set, with the RVs of a store that some rule links to an operation with a role, by the marks of the two instructions: all by rule 4, the own one by
+// rule 1, the one to the same processor by rule 3.
+fn with_remotes(
+    set: Set,
+    marks: u16,
+    processor: u8,
+    first: usize,
+    processors: usize,
+    role: u8,
+) -> Set
+    requires { ⌜ (first < 65536) × (processors ≤ 8) ⌝ }
+    ensures { λ r. ⌜ ((a : ℕ) → a < 128 → holds (r .lo) (r .hi) a ≡ (holds (set .lo) (set .hi) a || remoteLinked marks processor first processors role a)) ⌝ }
 {
-    if !wanted {
+    if has_mark(marks, FENCE) {
+        return with_every_remote(set, first, processors);
+    }
+    if role < ROLE_RV {
         return set;
     }
-    if a >= 128 {
-        return set;
-    }
-    insert(set, a)
+    let to = role - ROLE_RV;
+    let own = wide(processor);
+    let to_other = both(has_mark(marks, SAME), to != processor);
+    let by_own = insert_if(set, 1 + first + own, both(to_other, own < processors));
+    let same = wide(to);
+    let released = has_mark(marks, RELEASE);
+    insert_if(by_own, 1 + first + same, both(released, same < processors))
 }
 
-// The operations that must stand before operation o.
-pub fn preds_at(is: Instructions, t: Operations, marks: &[[u16; 40]; 40], o: usize) -> Set
-    requires { ⌜ (t .count ≤ 128) × (o < t .count) × ((k : ℕ) → k < t .count → getD (t .owners) k 0 < 40) ⌝ }
-    ensures { λ r. ⌜ ((a : ℕ) → holds (r .lo) (r .hi) a ≡ (ltb a (t .count) && linkedAt is t (now (marks .entry)) a o)) ⌝ }
+// Whether no operation is linked to one with a role, by the marks of their instructions. The marks that links ask for are below CONFLICT, and those that
+// links to an RV ask for below OVERLAP.
+fn is_apart(marks: u16, role: u8) -> bool
+    ensures { λ r. ⌜ (r ≡ true → (p : ℕ) (a : Role) → linkedBy marks p a (roleNumbered role) ≡ false) ⌝ }
 {
-    let n = t.count;
-    let owners = t.owners;
-    let roles = t.roles;
-    let processors = is.processors;
-    let w = wide(owners[o]);
-    let role = roles[o];
+    if role < ROLE_RV {
+        marks % CONFLICT == 0
+    } else {
+        marks % OVERLAP == 0
+    }
+}
+
+// A set, with the operations of an instruction that some rule links to an operation with a role, by the marks of the two instructions.
+fn with_linked(
+    set: Set,
+    marks: u16,
+    kind: u8,
+    processor: u8,
+    first: usize,
+    processors: usize,
+    role: u8,
+) -> Set
+    requires { ⌜ (first < 65536) × (processors ≤ 8) ⌝ }
+    ensures { λ r. ⌜ ((a : ℕ) → a < 128 → holds (r .lo) (r .hi) a ≡ (holds (set .lo) (set .hi) a || linkedFrom marks (kindOf kind) processor first processors role a)) ⌝ }
+{
+    if is_apart(marks, role) {
+        return set;
+    }
+    let its = kind_of(kind);
+    let linked = is_linked(marks, processor, role_of(its, 0), role);
+    let by_first = insert_if(set, first, linked);
+    if !is_store(its) {
+        return by_first;
+    }
+    with_remotes(by_first, marks, processor, first, processors, role)
+}
+
+// The operations that must stand before one of instruction w with a role, by the kinds, first operations and processors of n instructions.
+pub fn preds_at<'a>(
+    n: usize,
+    every: usize,
+    kinds: &'a [u8; 40],
+    firsts: &'a [u16; 40],
+    processors: &'a [u8; 40],
+    marks: &'a [[u16; 40]; 40],
+    w: usize,
+    role: u8,
+) -> Set
+    requires { ⌜ (n ≤ 40) × (every ≤ 8) × (w < 40) ⌝ }
+    ensures { λ r. ⌜ ((a : ℕ) → a < 128 → holds (r .lo) (r .hi) a ≡ anyBelow n (λ (v : ℕ). linkedOf every (now (kinds .entry)) (now (firsts .entry)) (now (processors .entry)) (now (marks .entry)) w role v a)) ⌝ }
+{
     let mut set = Set { lo: 0, hi: 0 };
-    for a in 0..n {
-        let v = wide(owners[a]);
-        let linked = is_linked(marks[v][w], processors[v], roles[a], role);
-        set = with_linked(set, a, linked);
+    for v in 0..n {
+        let first = wide16(firsts[v]);
+        let kind = kinds[v];
+        let processor = processors[v];
+        set = with_linked(set, marks[v][w], kind, processor, first, every, role);
     }
     set
 }
@@ -86,24 +149,18 @@ fn remotes_from(first: usize, processors: usize) -> Set
     set
 }
 
-// The RVs of the st.rel to WB that operation o is an RV of; of another operation none.
-pub fn partners_at(x: Execution, t: Operations, marks: &[[u16; 40]; 40], o: usize) -> Set
-    requires { ⌜ Compiled x t (now marks) × Accepted (executionOf x) × (o < operations (executionOf x)) ⌝ }
-    ensures { λ r. ⌜ ((a : ℕ) → holds (r .lo) (r .hi) a ≡ partnerAt x t (now (marks .entry)) o a) ⌝ }
+// The RVs of the st.rel to WB that an operation with a role is an RV of, by the marks of its instruction; of another operation none.
+pub fn partners_at(marks: u16, role: u8, first: usize, processors: usize) -> Set
+    requires { ⌜ (first < 65536) × (processors ≤ 8) × (hasMark marks atomicMark ≡ true → (q : ℕ) → q < processors → suc first + q < 128) ⌝ }
+    ensures { λ r. ⌜ ((a : ℕ) → holds (r .lo) (r .hi) a ≡ partnerOf marks role first processors a) ⌝ }
 {
-    let owners = t.owners;
-    let roles = t.roles;
-    if roles[o] < ROLE_RV {
+    if role < ROLE_RV {
         return Set { lo: 0, hi: 0 };
     }
-    let w = wide(owners[o]);
-    if !has_mark(marks[w][w], ATOMIC) {
+    if !has_mark(marks, ATOMIC) {
         return Set { lo: 0, hi: 0 };
     }
-    let is = x.instructions;
-    let firsts = is.firsts;
-    let first = wide16(firsts[w]);
-    remotes_from(first, x.processors)
+    remotes_from(first, processors)
 }
 
 // A set, with the operation for which one with a role may have to wait because of an instruction, by the marks of the two.
@@ -113,28 +170,27 @@ fn with_rival(set: Set, marks: u16, role: u8, first: usize, processor: usize) ->
 {
     if role == ROLE_R {
         let own = 1 + first + processor;
-        return with_operation(set, own, has_mark(marks, BYPASS));
+        return insert_if(set, own, has_mark(marks, BYPASS));
     }
     if role < ROLE_RV {
         return set;
     }
     let remote = 1 + first + wide(role - ROLE_RV);
-    with_operation(set, remote, has_mark(marks, CONFLICT))
+    insert_if(set, remote, has_mark(marks, CONFLICT))
 }
 
-// The operations for which operation o may have to wait by rules 9, 10 and 14.
-pub fn rivals_at(x: Execution, t: Operations, marks: &[[u16; 40]; 40], o: usize) -> Set
-    requires { ⌜ (x .instructions .count ≤ 40) × (o < 128) × (getD (t .owners) o 0 < 40) ⌝ }
-    ensures { λ r. ⌜ ((a : ℕ) → a < 128 → holds (r .lo) (r .hi) a ≡ anyBelow (x .instructions .count) (λ (v : ℕ). rivalOf x t (now (marks .entry)) o v a)) ⌝ }
+// The operations for which one of instruction w with a role may have to wait by rules 9, 10 and 14.
+pub fn rivals_at<'a>(
+    n: usize,
+    firsts: &'a [u16; 40],
+    processors: &'a [u8; 40],
+    marks: &'a [[u16; 40]; 40],
+    w: usize,
+    role: u8,
+) -> Set
+    requires { ⌜ (n ≤ 40) × (w < 40) ⌝ }
+    ensures { λ r. ⌜ ((a : ℕ) → a < 128 → holds (r .lo) (r .hi) a ≡ anyBelow n (λ (v : ℕ). rivalBy (markAt (now (marks .entry)) v w) role (getD (now (firsts .entry)) v 0) (getD (now (processors .entry)) v 0) a)) ⌝ }
 {
-    let is = x.instructions;
-    let n = is.count;
-    let firsts = is.firsts;
-    let processors = is.processors;
-    let owners = t.owners;
-    let roles = t.roles;
-    let w = wide(owners[o]);
-    let role = roles[o];
     let mut set = Set { lo: 0, hi: 0 };
     for v in 0..n {
         let first = wide16(firsts[v]);
@@ -154,30 +210,30 @@ fn is_beside(kind: u8, processor: u8, address: u8, own: u8, line: u8) -> bool
     )
 }
 
-// The own RVs of the stores of its processor to its line, where operation o is an R.
-pub fn bypasses_at(x: Execution, t: Operations, marks: &[[u16; 40]; 40], o: usize) -> Set
-    requires { ⌜ (x .instructions .count ≤ 40) × (o < 128) × (getD (t .owners) o 0 < 40) ⌝ }
-    ensures { λ r. ⌜ ((a : ℕ) → a < 128 → holds (r .lo) (r .hi) a ≡ anyBelow (x .instructions .count) (λ (v : ℕ). bypassOf x t (now (marks .entry)) o v a)) ⌝ }
+// The own RVs of the stores of instruction w's processor to its line, for an R; for another role none.
+pub fn bypasses_at<'a>(
+    n: usize,
+    kinds: &'a [u8; 40],
+    firsts: &'a [u16; 40],
+    processors: &'a [u8; 40],
+    addresses: &'a [u8; 40],
+    w: usize,
+    role: u8,
+) -> Set
+    requires { ⌜ (n ≤ 40) × (w < 40) ⌝ }
+    ensures { λ r. ⌜ ((a : ℕ) → a < 128 → holds (r .lo) (r .hi) a ≡ anyBelow n (λ (v : ℕ). eqb role 0 && (besideBy (now (kinds .entry)) (now (processors .entry)) (now (addresses .entry)) w v && eqb a (1 + getD (now (firsts .entry)) v 0 + getD (now (processors .entry)) v 0)))) ⌝ }
 {
-    let is = x.instructions;
-    let n = is.count;
-    let firsts = is.firsts;
-    let processors = is.processors;
-    let kinds = is.kinds;
-    let addresses = is.addresses;
-    let owners = t.owners;
-    let roles = t.roles;
     let mut set = Set { lo: 0, hi: 0 };
-    if roles[o] != ROLE_R {
+    if role != ROLE_R {
         return set;
     }
-    let w = wide(owners[o]);
     let own = processors[w];
     let line = addresses[w] / 8;
     for v in 0..n {
-        let beside = is_beside(kinds[v], processors[v], addresses[v], own, line);
-        let number = 1 + wide16(firsts[v]) + wide(processors[v]);
-        set = with_operation(set, number, beside);
+        let processor = processors[v];
+        let beside = is_beside(kinds[v], processor, addresses[v], own, line);
+        let number = 1 + wide16(firsts[v]) + wide(processor);
+        set = insert_if(set, number, beside);
     }
     set
 }

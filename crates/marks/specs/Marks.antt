@@ -1,12 +1,12 @@
 -- What two instructions are to each other, as marks packed into one number.
 use Prim.Native.Nat.{ℕ, _+_, _/_, _%_}
-use mathlib.Core.Bool.{Bool, false, _&&_}
+use mathlib.Core.Bool.{Bool, false, not, _&&_, _||_}
 use mathlib.Core.List.{List, [], _∷_}
 use lib.ListN.{getD}
 use lib.Dec.{eqb, leb, ltb}
 use Rattle.base.specs.Lists.{any, count, member}
 use Rattle.base.specs.Bits.{packed}
-use Rattle.model.specs.Execution.{Kind, isLoad, isStore, isRelease, Instruction, Execution}
+use Rattle.model.specs.Execution.{Kind, Attribute, isLoad, isStore, isRelease, isWB, isUC, Instruction, Execution}
 use Rattle.model.specs.ProgramOrder.{marks}
 use Rattle.model.specs.Rules.{overlap, inWB, inUC, conflict}
 
@@ -59,6 +59,22 @@ marksOf e i j =
 
 unfoldable pub marksBetween : Execution → Instruction → Instruction → ℕ
 marksBetween e i j = packed (marksOf e i j)
+
+-- the marks by what the two are to each other, their kinds and the attributes of their memory
+unfoldable pub marksBy : Bool → Bool → Bool → Bool → Bool → Kind → Kind → Attribute → Attribute → ℕ
+marksBy same own earlier overlaps given a b of-a of-b =
+    packed (
+    same
+    ∷ (earlier && member (marks a b) 2)
+    ∷ (earlier && member (marks a b) 3)
+    ∷ (earlier && member (marks a b) 4)
+    ∷ (earlier && overlaps)
+    ∷ given
+    ∷ (earlier && (isUC of-a && isUC of-b))
+    ∷ (isStore a && isStore b && (not same && overlaps && ((isWB of-a || isUC of-a) && (isWB of-b || isUC of-b))))
+    ∷ (isStore a && isLoad b && (isUC of-a && (own && overlaps)))
+    ∷ (same && (isStore a && (isRelease a && isWB of-a)))
+    ∷ [])
 
 -- the mark at row i and column j
 abbrev pub markAt : List (List ℕ) → ℕ → ℕ → ℕ

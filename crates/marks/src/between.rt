@@ -1,6 +1,6 @@
 // What two instructions are to each other: all marks of a pair of instructions, and those of every pair.
 ghost use mathlib.Core.Path.{_≡_};
-ghost use mathlib.Core.Bool.{not, _&&_, _||_};
+ghost use mathlib.Core.Bool.{cond, not, _&&_, _||_};
 ghost use mathlib.Core.List.{[], _∷_};
 ghost use Prim.Native.Nat.{ℕ, _+_, _*_, _<_, _≤_};
 ghost use lib.ListN.{getD};
@@ -10,13 +10,15 @@ ghost use Rattle.model.specs.Execution.{isLoad, isStore, isRelease, isWB, isUC}
 ghost use Rattle.model.specs.ProgramOrder.{marks};
 ghost use Rattle.decoded.specs.Kinds.{meant, attributeMeant};
 ghost use Rattle.decoded.specs.Decoded.{instructionAt, executionOf};
-ghost use Rattle.marks.specs.Marks.{marksBetween, markAt};
+ghost use Rattle.marks.specs.Marks.{marksBy, marksBetween, markAt};
 use crate::memory::attribute_in;
 use crate::memory::is_pair;
 use crate::memory::is_uc;
 use crate::memory::is_wb;
 use crate::table::ACQUIRE;
+use crate::table::CONFLICT;
 use crate::table::FENCE;
+use crate::table::PAIR;
 use crate::table::RELEASE;
 use crate::table::both;
 use crate::table::either;
@@ -73,37 +75,43 @@ fn memory_marks(
     with_mark(with_mark(atomic, bypass), conflict)
 }
 
-// All marks of two instructions.
-pub fn marks_between(x: Execution, i: InstructionNo, j: InstructionNo) -> u16
-    requires { ⌜ (i .0 < 40) × (j .0 < 40) × (x .lines .count ≤ 8) × (x .pairs .count ≤ 40) ⌝ }
-    ensures { λ r. ⌜ r ≡ marksBetween (executionOf x) (instructionAt (x .instructions) (i .0)) (instructionAt (x .instructions) (j .0)) ⌝ }
+// All marks of two instructions of which the first is neither the second nor an earlier one of its program: those of memory, and of a pair.
+fn apart_marks(memory: u16, given: bool) -> u16
+    requires { ⌜ memory ≤ 7 ⌝ }
+    ensures { λ r. ⌜ r ≡ cond given 32 0 + 128 * memory ⌝ }
 {
-    let first = i.0;
-    let second = j.0;
-    let is = x.instructions;
-    let processors = is.processors;
-    let kinds = is.kinds;
-    let addresses = is.addresses;
-    let sizes = is.sizes;
-    let own = processors[first] == processors[second];
-    let same = first == second;
-    let earlier = both(own, first < second);
-    let a = kind_of(kinds[first]);
-    let b = kind_of(kinds[second]);
-    let overlaps = shares_byte(
-        addresses[first],
-        sizes[first],
-        addresses[second],
-        sizes[second],
+    if given {
+        PAIR + CONFLICT * memory
+    } else {
+        CONFLICT * memory
+    }
+}
+
+// All marks of two instructions, by what they are to each other, their kinds and the attributes of their memory.
+fn marks_by(
+    same: bool,
+    own: bool,
+    earlier: bool,
+    overlaps: bool,
+    given: bool,
+    first: Kind,
+    second: Kind,
+    of_first: Attribute,
+    of_second: Attribute,
+) -> u16
+    ensures { λ r. ⌜ r ≡ marksBy same own earlier overlaps given (meant first) (meant second) (attributeMeant «of_first») (attributeMeant «of_second») ⌝ }
+{
+    let memory = memory_marks(same, own, overlaps, first, second, of_first, of_second);
+    if !either(same, earlier) {
+        return apart_marks(memory, given);
+    }
+    let uncacheable = with_mark(
+        memory,
+        both(earlier, both(is_uc(of_first), is_uc(of_second))),
     );
-    let of_a = attribute_in(x.lines, addresses[first]);
-    let of_b = attribute_in(x.lines, addresses[second]);
-    let given = is_pair(x.pairs, first, second);
-    let memory = memory_marks(same, own, overlaps, a, b, of_a, of_b);
-    let uncacheable = with_mark(memory, both(earlier, both(is_uc(of_a), is_uc(of_b))));
     let pair = with_mark(uncacheable, given);
     let overlap = with_mark(pair, both(earlier, overlaps));
-    let program = with_program_marks(overlap, earlier, a, b);
+    let program = with_program_marks(overlap, earlier, first, second);
     with_mark(program, same)
 }
 
@@ -114,10 +122,26 @@ fn marks_row(x: Execution, i: InstructionNo) -> [u16; 40]
 {
     let is = x.instructions;
     let n = is.count;
+    let processors = is.processors;
+    let kinds = is.kinds;
+    let addresses = is.addresses;
+    let sizes = is.sizes;
     let first = i.0;
+    let processor = processors[first];
+    let address = addresses[first];
+    let size = sizes[first];
+    let a = kind_of(kinds[first]);
+    let of_a = attribute_in(x.lines, address);
     let mut row = [0u16; 40];
     for k in 0..n {
-        row[k] = marks_between(x, InstructionNo(first), InstructionNo(k));
+        let own = processor == processors[k];
+        let same = first == k;
+        let earlier = both(own, first < k);
+        let overlaps = shares_byte(address, size, addresses[k], sizes[k]);
+        let given = is_pair(x.pairs, first, k);
+        let b = kind_of(kinds[k]);
+        let of_b = attribute_in(x.lines, addresses[k]);
+        row[k] = marks_by(same, own, earlier, overlaps, given, a, b, of_a, of_b);
     }
     row
 }

@@ -53,6 +53,9 @@ pub fn is_pair(pairs: Pairs, earlier: usize, later: usize) -> bool
     ensures { λ r. ⌜ r ≡ givenPair (pairsOf pairs) earlier later ⌝ }
 {
     let n = pairs.count;
+    if n == 0 {
+        return false;
+    }
     let firsts = pairs.earlier;
     let seconds = pairs.later;
     for k in 0..n {

@@ -122,9 +122,11 @@ module _ (x : Execution) (w : ℕ) {address size : ℕ} (is-address : address �
       (agree (ltb (i / 8) (first % 8 + extent)) (ltb (8 * (first / 8) + i / 8) (first + extent)) (λ t. lt-ltb (8 * (first / 8) + i / 8) (first + extent) (omega (arith, ltb-true (i / 8) (first % 8 + extent) t)))
       (λ t. lt-ltb (i / 8) (first % 8 + extent) (omega (arith, ltb-true (8 * (first / 8) + i / 8) (first + extent) t))))
 
-  pub data-by : (i : ℕ) → (leb (address % 8) (i / 8) && ltb (i / 8) (address % 8 + size) && bit (getD (x .instructions .bytes) (8 * w + (i / 8 - address % 8)) 0) (i % 8)) ≡ dataBit x w i
+  pub data-by : {bytes : List ℕ} → bytes ≡ x .instructions .bytes → (i : ℕ) → (leb (address % 8) (i / 8) && ltb (i / 8) (address % 8 + size) && bit (getD bytes (8 * w + (i / 8 - address % 8)) 0) (i % 8)) ≡ dataBit x w i
   unfolding dataBit
-  data-by i = ap₂ (λ (b : Bool) (a : ℕ). b && bit (getD (x .instructions .bytes) (8 * w + (i / 8 - a % 8)) 0) (i % 8)) (covers-by i) is-address
+  data-by {bytes} lent i =
+      ap (λ (own : List ℕ). leb (address % 8) (i / 8) && ltb (i / 8) (address % 8 + size) && bit (getD own (8 * w + (i / 8 - address % 8)) 0) (i % 8)) lent
+      ∙ ap₂ (λ (b : Bool) (a : ℕ). b && bit (getD (x .instructions .bytes) (8 * w + (i / 8 - a % 8)) 0) (i % 8)) (covers-by i) is-address
 
 -- the bytes of a whole line
 pub whole-line : (initial : List ℕ) (line i : ℕ) → i < 64 → (leb 0 (i / 8) && ltb (i / 8) (0 + 8) && bit (getD initial (8 * line + (i / 8 - 0)) 0) (i % 8)) ≡ bit (getD initial (8 * line + i / 8) 0) (i % 8)

@@ -1,7 +1,7 @@
 -- The seventeen words of a row are what they should be.
-use Prim.Native.Nat.{ℕ, _+_, _*_, _-_, _/_, _%_, _≤_, _<_}
+use Prim.Native.Nat.{ℕ, suc, _+_, _*_, _-_, _/_, _%_, _≤_, _<_}
 use native.Mathlib.Omega.{arith}
-use mathlib.Core.Path.{_≡_, sym, ap, ap₂, _∙_}
+use mathlib.Core.Path.{_≡_, refl, sym, ap, ap₂, _∙_, subst}
 use mathlib.Core.Bool.{Bool, true, false, cond, _&&_, _||_}
 use mathlib.Core.List.{List, []}
 use lib.ListN.{length, getD}
@@ -22,13 +22,15 @@ use Rattle.links.proofs.CompiledLaws.{few-instructions, owner-there}
 use Rattle.reduction.proofs.Apart.{each-in}
 use Rattle.sets.specs.Set.{holds}
 use Rattle.sets.proofs.Laws.{zero-has}
-use Rattle.admit.specs.Rows.{writes, visibleAt, ownAt, covers, dataBit, rivalOf, bypassOf, RowOf}
-use Rattle.links.specs.Linked.{linkedAt}
-use Rattle.constraints.specs.Rows.{partnerAt}
+use Rattle.admit.specs.Rows.{writes, visibleAt, ownAt, covers, dataBit, rivalBy, RowOf}
+use Rattle.marks.specs.Marks.{hasMark, markAt}
+use Rattle.constraints.specs.Rows.{partnerOf, partnerAt, linkedOf, besideBy}
 use Rattle.constraints.proofs.LinkedLaws.{preds-mean}
-use Rattle.constraints.proofs.PartnerLaws.{partner-means}
+use Rattle.constraints.proofs.PartnerLaws.{remotes-fit, partner-means}
+use Rattle.constraints.proofs.OwnedLaws.{each-linked}
 use Rattle.meaning.proofs.Owners.{numbered-in}
 use Rattle.meaning.proofs.Bytes.{fits-line}
+use Rattle.rows.specs.Lent.{Lent}
 
 -- what a role writes
 pub writing-LV : (role : ℕ) → role ≡ 1 → true ≡ writes role
@@ -45,7 +47,7 @@ module _ (role processor line : ℕ) where
   pub word-LV : role ≡ 1 → writes role ≡ true → 64 + 8 * processor + line ≡ wordOf
   word-LV h w = ap (λ (b : Bool). cond b (ownAt processor line) (visibleAt (role - 3) line)) (sym (eq-eqb role 1 h))
 
-  pub word-none : (role ≡ 1 → ⊥) → role < 3 → writes role ≡ true → 0 ≡ wordOf
+  pub word-none : (role ≡ 1 → ⊥) → role < 3 → {word : ℕ} → writes role ≡ true → word ≡ wordOf
   word-none h l w = clash w (sym (writing-by role h) ∙ lt-leb 3 role l)
 
   pub word-RV : (role ≡ 1 → ⊥) → {q : ℕ} → q ≡ role - 3 → writes role ≡ true → 8 * q + line ≡ wordOf
@@ -59,16 +61,20 @@ wanted-bit false c word i h = zero-has i
 
 -- an owner's access stays in its line
 pub owner-fits : {x : Execution} {t : Operations} {marks : List (List ℕ)} → Compiled x t marks → Accepted (executionOf x) → (o : ℕ) → o < operations (executionOf x)
-    → (w : ℕ) → w ≡ getD (t .owners) o 0 → (w < 40) × (getD (x .instructions .addresses) w 0 % 8 + getD (x .instructions .sizes) w 0 ≤ 8)
+    → {owners roles kinds firsts processors addresses sizes bytes : List ℕ} → Lent x t owners roles kinds firsts processors addresses sizes bytes
+    → (w : ℕ) → w ≡ getD owners o 0 → (w < 40) × (getD addresses w 0 % 8 + getD sizes w 0 ≤ 8)
 unfolding instructionAt
-owner-fits {x} {t} {marks} h accepted o low w is =
+owner-fits {x} {t} {marks} h accepted o low {owners} {roles} {kinds} {firsts} {processors} {addresses} {sizes} {bytes} lent w is =
     let there : getD (t .owners) o 0 < x .instructions .count = owner-there h o (omega (arith, h .tabled .counts)) in
-    let l : w < x .instructions .count = omega arith in (
+    let l : w < x .instructions .count = omega (arith, is ∙ ap (λ (own : List ℕ). getD own o 0) (lent .owners-are)) in
+    let fits : getD (x .instructions .addresses) w 0 % 8 + getD (x .instructions .sizes) w 0 ≤ 8 =
+    fits-line (each-in (Sound (executionOf x .processors) (length (executionOf x .lines))) (accepted .sound) (numbered-in (record { execution = x; operations = t; marks = marks; rows = [] }) w l)) in (
       omega (arith, few-instructions x accepted),
-      fits-line (each-in (Sound (executionOf x .processors) (length (executionOf x .lines))) (accepted .sound) (numbered-in (record { execution = x; operations = t; marks = marks; rows = [] }) w l)),
+      subst (λ (n : ℕ). n ≤ 8) (ap₂ (λ (from long : List ℕ). getD from w 0 % 8 + getD long w 0) (sym (lent .addresses-are)) (sym (lent .sizes-are))) fits,
     )
 
-module _ {x : Execution} {t : Operations} {marks : List (List ℕ)} (h : Compiled x t marks) (accepted : Accepted (executionOf x)) (o : ℕ) (low : o < operations (executionOf x)) where
+module _ {x : Execution} {t : Operations} {marks : List (List ℕ)} (h : Compiled x t marks) (accepted : Accepted (executionOf x)) (o : ℕ) (low : o < operations (executionOf x))
+    {owners roles kinds firsts processors addresses sizes bytes : List ℕ} (lent : Lent x t owners roles kinds firsts processors addresses sizes bytes) where
   abbrev owner : ℕ
   owner = getD (t .owners) o 0
 
@@ -78,25 +84,68 @@ module _ {x : Execution} {t : Operations} {marks : List (List ℕ)} (h : Compile
   there : o < t .count
   there = omega (arith, h .tabled .counts)
 
-  pub row-is : (row : ℕ → ℕ) (w first processor line : ℕ) → w ≡ owner → first ≡ getD (x .instructions .firsts) w 0 → processor ≡ getD (x .instructions .processors) w 0
-      → line ≡ getD (x .instructions .addresses) w 0 / 8
-      → ((a : ℕ) → holds (row 0) (row 1) a ≡ (ltb a (t .count) && linkedAt (x .instructions) t marks a o))
-      → ((a : ℕ) → holds (row 2) (row 3) a ≡ partnerAt x t marks o a)
-      → ((a : ℕ) → a < 128 → holds (row 4) (row 5) a ≡ anyBelow (x .instructions .count) (λ v. rivalOf x t marks o v a))
-      → ((a : ℕ) → a < 128 → holds (row 6) (row 7) a ≡ anyBelow (x .instructions .count) (λ v. bypassOf x t marks o v a))
+  -- what the sets hold of an operation of instruction w with a role, by the kinds, first operations, processors and addresses of the instructions
+  abbrev linkedSome : ℕ → List ℕ → List ℕ → List ℕ → ℕ → ℕ → Bool
+  linkedSome role ks fs ps w a = anyBelow (x .instructions .count) (λ v. linkedOf (x .processors) ks fs ps marks w role v a)
+
+  abbrev rivalSome : ℕ → List ℕ → List ℕ → ℕ → ℕ → Bool
+  rivalSome role fs ps w a = anyBelow (x .instructions .count) (λ v. rivalBy (markAt marks v w) role (getD fs v 0) (getD ps v 0) a)
+
+  abbrev bypassSome : ℕ → List ℕ → List ℕ → List ℕ → List ℕ → ℕ → ℕ → Bool
+  bypassSome role ks fs ps from w a =
+      anyBelow (x .instructions .count) (λ v. eqb role 0 && (besideBy ks ps from w v && eqb a (1 + getD fs v 0 + getD ps v 0)))
+
+  -- the same by the execution, of the operation's owner
+  linked-lent : (w a : ℕ) → w ≡ owner → linkedSome role kinds firsts processors w a ≡ linkedSome role (x .instructions .kinds) (x .instructions .firsts) (x .instructions .processors) owner a
+  linked-lent w a iw =
+      ap₂ (λ (ks fs : List ℕ). linkedSome role ks fs processors w a) (lent .kinds-are) (lent .firsts-are)
+      ∙ ap₂ (λ (ps : List ℕ) (v : ℕ). linkedSome role (x .instructions .kinds) (x .instructions .firsts) ps v a) (lent .processors-are) iw
+
+  rivals-lent : (w a : ℕ) → w ≡ owner → rivalSome role firsts processors w a ≡ rivalSome role (x .instructions .firsts) (x .instructions .processors) owner a
+  rivals-lent w a iw =
+      ap (λ (fs : List ℕ). rivalSome role fs processors w a) (lent .firsts-are)
+      ∙ ap₂ (λ (ps : List ℕ) (v : ℕ). rivalSome role (x .instructions .firsts) ps v a) (lent .processors-are) iw
+
+  bypass-lent : (w a : ℕ) → w ≡ owner
+      → bypassSome role kinds firsts processors addresses w a ≡ bypassSome role (x .instructions .kinds) (x .instructions .firsts) (x .instructions .processors) (x .instructions .addresses) owner a
+  bypass-lent w a iw =
+      ap₂ (λ (ks fs : List ℕ). bypassSome role ks fs processors addresses w a) (lent .kinds-are) (lent .firsts-are)
+      ∙ ap₂ (λ (ps from : List ℕ). bypassSome role (x .instructions .kinds) (x .instructions .firsts) ps from w a) (lent .processors-are) (lent .addresses-are)
+      ∙ ap (λ (v : ℕ). bypassSome role (x .instructions .kinds) (x .instructions .firsts) (x .instructions .processors) (x .instructions .addresses) v a) iw
+
+  partner-by : (a : ℕ) → partnerOf (markAt marks owner owner) role (getD (x .instructions .firsts) owner 0) (x .processors) a ≡ partnerAt x t marks o a
+  unfolding partnerAt
+  partner-by a = refl
+
+  -- the RVs of an st.rel to WB are operations
+  pub partners-fit : (w first : ℕ) → w ≡ owner → first ≡ getD firsts w 0 → hasMark (markAt marks w w) 512 ≡ true → (q : ℕ) → q < x .processors → suc first + q < 128
+  partners-fit w first iw isf mark q l =
+      omega (arith, remotes-fit h accepted o there (ap (λ (v : ℕ). hasMark (markAt marks v v) 512) (sym iw) ∙ mark) q l, isf ∙ ap₂ (λ (fs : List ℕ) (v : ℕ). getD fs v 0) (lent .firsts-are) iw)
+
+  -- what makes a row of the operation, by its role
+  abbrev RowIs : ℕ → Type 0
+  RowIs r =
+      (row : ℕ → ℕ) (w first processor line : ℕ) → w ≡ owner → first ≡ getD firsts w 0 → processor ≡ getD processors w 0
+      → line ≡ getD addresses w 0 / 8
+      → ((a : ℕ) → a < 128 → holds (row 0) (row 1) a ≡ linkedSome r kinds firsts processors w a)
+      → ((a : ℕ) → holds (row 2) (row 3) a ≡ partnerOf (markAt marks w w) r first (x .processors) a)
+      → ((a : ℕ) → a < 128 → holds (row 4) (row 5) a ≡ rivalSome r firsts processors w a)
+      → ((a : ℕ) → a < 128 → holds (row 6) (row 7) a ≡ bypassSome r kinds firsts processors addresses w a)
       → (bits written : ℕ) → ((i : ℕ) → i < 64 → bit bits i ≡ covers x w i) → ((i : ℕ) → i < 64 → bit written i ≡ dataBit x w i)
-      → (writing : Bool) → writing ≡ writes role
+      → (writing : Bool) → writing ≡ writes r
       → row 8 ≡ cond writing bits 0 → row 9 ≡ cond writing written 0
-      → (writes role ≡ true → row 10 ≡ cond (eqb role 1) (ownAt processor line) (visibleAt (role - 3) line))
-      → row 11 ≡ cond (eqb role 0) bits 0 → row 12 ≡ cond (eqb role 0) written 0
+      → (writes r ≡ true → row 10 ≡ cond (eqb r 1) (ownAt processor line) (visibleAt (r - 3) line))
+      → row 11 ≡ cond (eqb r 0) bits 0 → row 12 ≡ cond (eqb r 0) written 0
       → row 13 ≡ 8 * processor + line → row 14 ≡ 64 + 8 * processor + line
       → row 15 ≡ cond writing (1 + first + processor) o → row 16 ≡ cond writing first o
       → RowOf x t marks o row
-  row-is row w first processor line iw isf ip il preds partners rivals bypasses bits written bits-are data-are writing wr r8 r9 r10 r11 r12 r13 r14 r15 r16 = record {
-    preds-are = λ a l. preds a ∙ preds-mean h accepted o a there ∙ ap (λ (n : ℕ). ltb a n && linked (executionOf x) (operationAt (x .instructions) t a) (operationAt (x .instructions) t o)) (h .tabled .counts);
-    partners-are = λ a l. partners a ∙ partner-means h accepted o there a;
-    rivals-are = rivals;
-    bypasses-are = bypasses;
+
+  row-by-role : RowIs role
+  row-by-role row w first processor line iw isf ip il preds partners rivals bypasses bits written bits-are data-are writing wr r8 r9 r10 r11 r12 r13 r14 r15 r16 = record {
+    preds-are = λ a l. preds a l ∙ linked-lent w a iw ∙ each-linked h o a ∙ preds-mean h accepted o a there ∙ ap (λ (n : ℕ). ltb a n && linked (executionOf x) (operationAt (x .instructions) t a) (operationAt (x .instructions) t o)) (h .tabled .counts);
+    partners-are = λ a l. partners a ∙ ap₂ (λ (v f : ℕ). partnerOf (markAt marks v v) role f (x .processors) a) iw first-is ∙ partner-by a ∙ partner-means h accepted o there a;
+    rivals-are = λ a l. rivals a l ∙ rivals-lent w a iw;
+    bypasses-are = λ a l. bypasses a l ∙ bypass-lent w a iw;
     writes-bits = λ i l. ap (λ (v : ℕ). bit v i) r8 ∙ wanted-bit writing (covers x w i) bits i (bits-are i l) ∙ ap₂ (λ (b : Bool) (v : ℕ). b && covers x v i) wr iw;
     writes-data = λ i l. ap (λ (v : ℕ). bit v i) r9 ∙ wanted-bit writing (dataBit x w i) written i (data-are i l) ∙ ap₂ (λ (b : Bool) (v : ℕ). b && dataBit x v i) wr iw;
     writes-word = λ u. r10 u ∙ ap₂ (λ (p l : ℕ). cond (eqb role 1) (ownAt p l) (visibleAt (role - 3) l)) processor-is line-is;
@@ -109,10 +158,13 @@ module _ {x : Execution} {t : Operations} {marks : List (List ℕ)} (h : Compile
   }
     where
       processor-is : processor ≡ getD (x .instructions .processors) owner 0
-      processor-is = ip ∙ ap (λ (v : ℕ). getD (x .instructions .processors) v 0) iw
+      processor-is = ip ∙ ap₂ (λ (ps : List ℕ) (v : ℕ). getD ps v 0) (lent .processors-are) iw
 
       line-is : line ≡ getD (x .instructions .addresses) owner 0 / 8
-      line-is = il ∙ ap (λ (v : ℕ). getD (x .instructions .addresses) v 0 / 8) iw
+      line-is = il ∙ ap₂ (λ (from : List ℕ) (v : ℕ). getD from v 0 / 8) (lent .addresses-are) iw
 
       first-is : first ≡ getD (x .instructions .firsts) owner 0
-      first-is = isf ∙ ap (λ (v : ℕ). getD (x .instructions .firsts) v 0) iw
+      first-is = isf ∙ ap₂ (λ (fs : List ℕ) (v : ℕ). getD fs v 0) (lent .firsts-are) iw
+
+  pub row-is : RowIs (getD roles o 0)
+  row-is = subst RowIs (sym (ap (λ (own : List ℕ). getD own o 0) (lent .roles-are))) row-by-role

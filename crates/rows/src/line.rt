@@ -5,8 +5,7 @@ ghost use Prim.Native.Nat.{ℕ, _+_, _*_, _-_, _/_, _%_, _<_, _≤_};
 ghost use lib.ListN.{length, getD};
 ghost use lib.Dec.{eqb, leb, ltb};
 ghost use Rattle.base.specs.Bits.{bit};
-ghost use Rattle.admit.specs.Rows.{covers, dataBit, Bytes};
-use decoded::types::Execution;
+ghost use Rattle.admit.specs.Rows.{Bytes};
 use decoded::types::Lines;
 use decoded::types::wide;
 
@@ -21,7 +20,7 @@ fn with_byte(word: u64, byte: u8, place: usize) -> u64
 }
 
 // The bits of so many bytes from a place on.
-fn bits_from(place: usize, size: usize) -> u64
+pub fn bits_from(place: usize, size: usize) -> u64
     requires { ⌜ place + size ≤ 8 ⌝ }
     ensures { λ r. ⌜ ((i : ℕ) → i < 64 → bit r i ≡ (leb place (i / 8) && ltb (i / 8) (place + size))) ⌝ }
 {
@@ -44,29 +43,12 @@ fn bytes_from(bytes: &[u8], at: usize, place: usize, size: usize) -> u64
     word
 }
 
-// The bits of an instruction's bytes in its line.
-pub fn access_bits(x: Execution, w: usize) -> u64
-    requires { ⌜ (w < 40) × (getD (x .instructions .addresses) w 0 % 8 + getD (x .instructions .sizes) w 0 ≤ 8) ⌝ }
-    ensures { λ r. ⌜ ((i : ℕ) → i < 64 → bit r i ≡ covers x w i) ⌝ }
+// So many data bytes of instruction w, from a place on.
+pub fn data_from(bytes: &[u8; 320], w: usize, place: usize, size: usize) -> u64
+    requires { ⌜ (w < 40) × (place + size ≤ 8) ⌝ }
+    ensures { λ r. ⌜ ((i : ℕ) → i < 64 → bit r i ≡ (leb place (i / 8) && ltb (i / 8) (place + size) && bit (getD (now (bytes .entry)) (8 * w + (i / 8 - place)) 0) (i % 8))) ⌝ }
 {
-    let is = x.instructions;
-    let addresses = is.addresses;
-    let sizes = is.sizes;
-    let place = wide(addresses[w]) % 8;
-    bits_from(place, wide(sizes[w]))
-}
-
-// What an instruction saw or wrote, in its line.
-pub fn access_data(x: Execution, w: usize) -> u64
-    requires { ⌜ (w < 40) × (getD (x .instructions .addresses) w 0 % 8 + getD (x .instructions .sizes) w 0 ≤ 8) ⌝ }
-    ensures { λ r. ⌜ ((i : ℕ) → i < 64 → bit r i ≡ dataBit x w i) ⌝ }
-{
-    let is = x.instructions;
-    let addresses = is.addresses;
-    let sizes = is.sizes;
-    let bytes = is.bytes;
-    let place = wide(addresses[w]) % 8;
-    bytes_from(&bytes, 8 * w, place, wide(sizes[w]))
+    bytes_from(bytes, 8 * w, place, size)
 }
 
 // The initial bytes of a line.

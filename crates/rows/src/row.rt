@@ -9,8 +9,9 @@ ghost use Rattle.model.proofs.Accepted.{Accepted};
 ghost use Rattle.decoded.specs.Decoded.{executionOf};
 ghost use Rattle.links.specs.Compiled.{Compiled};
 ghost use Rattle.admit.specs.Rows.{writes, visibleAt, ownAt, RowOf};
-use crate::line::access_bits;
-use crate::line::access_data;
+ghost use Rattle.rows.specs.Lent.{Lent};
+use crate::line::bits_from;
+use crate::line::data_from;
 use constraints::bypasses_at;
 use constraints::partners_at;
 use constraints::preds_at;
@@ -48,7 +49,8 @@ fn number_of(writing: bool, number: usize, o: usize) -> u64
     if writing { number as u64 } else { o as u64 }
 }
 
-// The word that an LV or an RV writes.
+// The word that an LV or an RV writes. Another operation writes no bits, and to the last word: where it wrote to one that loads read, the search would ask
+// these again behind it.
 fn word_of(role: u8, processor: usize, line: usize) -> u64
     requires { ⌜ (processor < 256) × (line < 256) ⌝ }
     ensures { λ r. ⌜ (writes role ≡ true → r ≡ cond (eqb role 1) (ownAt processor line) (visibleAt (role - 3) line)) ⌝ }
@@ -57,32 +59,45 @@ fn word_of(role: u8, processor: usize, line: usize) -> u64
         return (64 + 8 * processor + line) as u64;
     }
     if role < ROLE_RV {
-        return 0;
+        return 127;
     }
     (8 * wide(role - ROLE_RV) + line) as u64
 }
 
-pub fn row_of(x: Execution, t: Operations, marks: &[[u16; 40]; 40], o: usize) -> [u64; 17]
-    requires { ⌜ Compiled x t (now marks) × Accepted (executionOf x) × (o < operations (executionOf x)) ⌝ }
+// The row of operation o, by the arrays of the operations and the instructions, that are lent for all rows.
+pub fn row_of<'a>(
+    x: Execution,
+    t: Operations,
+    marks: &'a [[u16; 40]; 40],
+    owners: &'a [u8; 128],
+    roles: &'a [u8; 128],
+    kinds: &'a [u8; 40],
+    firsts: &'a [u16; 40],
+    processors: &'a [u8; 40],
+    addresses: &'a [u8; 40],
+    sizes: &'a [u8; 40],
+    bytes: &'a [u8; 320],
+    o: usize,
+) -> [u64; 17]
+    requires { ⌜ Compiled x t (now marks) × Accepted (executionOf x) × (o < operations (executionOf x)) × Lent x t (now owners) (now roles) (now kinds) (now firsts) (now processors) (now addresses) (now sizes) (now bytes) ⌝ }
     ensures { λ r. ⌜ RowOf x t (now (marks .entry)) o (λ (f : ℕ). getD r f 0) ⌝ }
 {
-    let is = x.instructions;
-    let owners = t.owners;
-    let roles = t.roles;
-    let firsts = is.firsts;
-    let processors = is.processors;
-    let addresses = is.addresses;
+    let every = x.processors;
+    let n = x.instructions.count;
     let w = wide(owners[o]);
     let role = roles[o];
     let first = wide16(firsts[w]);
     let processor = wide(processors[w]);
-    let line = wide(addresses[w] / 8);
-    let preds = preds_at(is, t, marks, o);
-    let partners = partners_at(x, t, marks, o);
-    let rivals = rivals_at(x, t, marks, o);
-    let bypasses = bypasses_at(x, t, marks, o);
-    let bits = access_bits(x, w);
-    let data = access_data(x, w);
+    let address = wide(addresses[w]);
+    let size = wide(sizes[w]);
+    let line = address / 8;
+    let place = address % 8;
+    let preds = preds_at(n, every, kinds, firsts, processors, marks, w, role);
+    let partners = partners_at(marks[w][w], role, first, every);
+    let rivals = rivals_at(n, firsts, processors, marks, w, role);
+    let bypasses = bypasses_at(n, kinds, firsts, processors, addresses, w, role);
+    let bits = bits_from(place, size);
+    let data = data_from(bytes, w, place, size);
     let writing = is_writing(role);
     let reading = role == ROLE_R;
     let written_bits = wanted(writing, bits);

@@ -13,15 +13,14 @@ use crate::row::row_of;
 use decoded::types::Execution;
 use links::operations::Operations;
 
-// A table with no rows yet: the initial bytes of each line, for each processor and each kind of word.
-fn no_rows(x: Execution) -> [u64; 2304]
-    ensures { λ r. ⌜ Initial x (firstWords r) ⌝ }
+// Puts the first words in: the initial bytes of each line, for each processor and each kind of word.
+fn put_first(rows: &mut [u64; 2304], x: Execution)
+    requires { ⌜ length (now rows) ≡ 2304 ⌝ }
+    ensures { λ _. ⌜ (length (now (rows .exit)) ≡ 2304) × Initial x (firstWords (now (rows .exit))) ⌝ }
 {
-    let mut rows = [0u64; 2304];
     for c in 0..128 {
         rows[2176 + c] = initial_word(x.lines, c % 8);
     }
-    rows
 }
 
 // Puts the row of an operation in.
@@ -53,9 +52,32 @@ pub fn rows_of(x: Execution, t: Operations, marks: &[[u16; 40]; 40]) -> [u64; 23
     ensures { λ r. ⌜ Holds x t (now (marks .entry)) r ⌝ }
 {
     let n = t.count;
-    let mut rows = no_rows(x);
+    let owners = t.owners;
+    let roles = t.roles;
+    let is = x.instructions;
+    let kinds = is.kinds;
+    let firsts = is.firsts;
+    let processors = is.processors;
+    let addresses = is.addresses;
+    let sizes = is.sizes;
+    let bytes = is.bytes;
+    let mut rows = [0u64; 2304];
+    put_first(&mut rows, x);
     for o in 0..n {
-        let row = row_of(x, t, marks, o);
+        let row = row_of(
+            x,
+            t,
+            marks,
+            &owners,
+            &roles,
+            &kinds,
+            &firsts,
+            &processors,
+            &addresses,
+            &sizes,
+            &bytes,
+            o,
+        );
         put_row(&mut rows, o, &row);
     }
     known_data(x);

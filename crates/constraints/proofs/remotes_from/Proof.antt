@@ -7,7 +7,8 @@ use lib.Dec.{eqb}
 use Rattle.base.specs.Lists.{member}
 use Rattle.sets.specs.Set.{holds}
 use Rattle.constraints.specs.Rows.{remotesFrom}
-use Rattle.constraints.proofs.SetLaws.{holds-none, remotes-none, remotes-more}
+use Rattle.sets.proofs.Members.{holds-none}
+use Rattle.constraints.proofs.SetLaws.{remotes-none, remotes-more}
 use borrow.Author.Needs.{needs}
 use Rattle.constraints.proofs.remotes_from.Statement.{statement}
 use Rattle.constraints.proofs.remotes_from.Tie as tie

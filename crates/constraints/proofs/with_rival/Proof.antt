@@ -13,11 +13,11 @@ add-own-2 c = search needs
 has-mark-requires : tie.Need-has-mark-requires
 has-mark-requires c κs = search needs
 
-with-operation-requires : tie.Need-with-operation-requires
-with-operation-requires c κs = search needs
+insert-if-requires : tie.Need-insert-if-requires
+insert-if-requires c κs = search needs
 
 returns : tie.Need-returns
-returns c = λ k l. let a = c .before .before .before .args in rival-R (a .set .lo) (a .set .hi) (a .marks) (a .role) (a .first) (a .processor) k (c .before .before .if1 .taken) (c .before .has-mark .ensures) (c .with-operation .ensures k l)
+returns c = λ k l. let a = c .before .before .before .args in rival-R (a .set .lo) (a .set .hi) (a .marks) (a .role) (a .first) (a .processor) k (c .before .before .if1 .taken) (c .before .has-mark .ensures) (c .insert-if .ensures k l)
 
 returns-2 : tie.Need-returns-2
 returns-2 c = λ k l. let a = c .before .before .args in rival-none (a .set .lo) (a .set .hi) (a .marks) (a .role) (a .first) (a .processor) k (c .before .if1 .left) (c .if2 .taken)
@@ -34,11 +34,11 @@ add-remote-2 c = search needs
 has-mark-requires-2 : tie.Need-has-mark-requires-2
 has-mark-requires-2 c κs = search needs
 
-with-operation-requires-2 : tie.Need-with-operation-requires-2
-with-operation-requires-2 c κs = search needs
+insert-if-requires-2 : tie.Need-insert-if-requires-2
+insert-if-requires-2 c κs = search needs
 
 returns-3 : tie.Need-returns-3
-returns-3 c = λ k l. let a = c .before .before .before .before .before .args in rival-RV (a .set .lo) (a .set .hi) (a .marks) (a .role) (a .first) (a .processor) k (c .before .before .before .before .if1 .left) (c .before .before .before .if2 .left) (c .before .before .wide .ensures .0) (c .before .has-mark2 .ensures) (c .with-operation2 .ensures k l)
+returns-3 c = λ k l. let a = c .before .before .before .before .before .args in rival-RV (a .set .lo) (a .set .hi) (a .marks) (a .role) (a .first) (a .processor) k (c .before .before .before .before .if1 .left) (c .before .before .before .if2 .left) (c .before .before .wide .ensures .0) (c .before .has-mark2 .ensures) (c .insert-if2 .ensures k l)
 
 pub with-rival-spec : {M : Type 1} → statement M
 with-rival-spec =
@@ -47,12 +47,12 @@ with-rival-spec =
     add-own
     add-own-2
     has-mark-requires
-    with-operation-requires
+    insert-if-requires
     returns
     returns-2
     add-remote
     wide-requires
     add-remote-2
     has-mark-requires-2
-    with-operation-requires-2
+    insert-if-requires-2
     returns-3)

@@ -1,4 +1,4 @@
--- The pairs passed are others; the first that is the given one decides.
+-- No pair; else the pairs passed are others; the first that is the given one decides.
 use Prim.Native.Nat.{_-_}
 use mathlib.Core.Path.{ap₂, _∙_}
 use mathlib.Core.Bool.{_&&_}
@@ -16,6 +16,12 @@ Inv-loop earlier later n firsts seconds k₀ k = NoneYet n (λ i. eqb (getD firs
 
 abbrev μ-loop : tie.MeasureT-loop
 μ-loop earlier later n firsts seconds k₀ k = n - k
+
+returns : tie.Need-returns Inv-loop μ-loop
+returns c =
+    let a = c .before .args in
+    finds-none (seeks {n = a .pairs .count} {p = λ i. eqb (getD (a .pairs .earlier) i 0) (a .earlier) && eqb (getD (a .pairs .later) i 0) (a .later)}) (omega (arith, c .if1 .taken))
+    ∙ pair-by-index (a .pairs) (a .earlier) (a .later)
 
 loop-holds : tie.Need-loop-holds Inv-loop μ-loop
 loop-holds c = seeks
@@ -35,12 +41,12 @@ wide-requires-2 c κs = search needs
 both-requires : tie.Need-both-requires Inv-loop μ-loop
 both-requires c κs = search needs
 
-returns : tie.Need-returns Inv-loop μ-loop
-returns c =
+returns-2 : tie.Need-returns-2 Inv-loop μ-loop
+returns-2 c =
     let b = c .before .before .before .before in
-    let a = b .before .before .before .before .args in
+    let a = b .before .before .before .before .before .args in
     meets (b .before .loop .inv) (b .loop-test .taken)
-    (c .before .both .ensures ∙ ap₂ (λ j k. eqb j (a .earlier) && eqb k (a .later)) (c .before .before .before .wide .ensures .0) (c .before .before .wide2 .ensures .0)) (c .if1 .taken)
+    (c .before .both .ensures ∙ ap₂ (λ j k. eqb j (a .earlier) && eqb k (a .later)) (c .before .before .before .wide .ensures .0) (c .before .before .wide2 .ensures .0)) (c .if2 .taken)
     ∙ pair-by-index (a .pairs) (a .earlier) (a .later)
 
 add-k : tie.Need-add-k Inv-loop μ-loop
@@ -52,13 +58,13 @@ loop-less c = omega arith
 loop-again : tie.Need-loop-again Inv-loop μ-loop
 loop-again c =
     let b = c .before .before .before .before in
-    let a = b .before .before .before .before .args in
+    let a = b .before .before .before .before .before .args in
     passes-by (b .before .loop .inv) (b .loop-test .taken)
-    (c .before .both .ensures ∙ ap₂ (λ j k. eqb j (a .earlier) && eqb k (a .later)) (c .before .before .before .wide .ensures .0) (c .before .before .wide2 .ensures .0)) (c .if1 .left)
+    (c .before .both .ensures ∙ ap₂ (λ j k. eqb j (a .earlier) && eqb k (a .later)) (c .before .before .before .wide .ensures .0) (c .before .before .wide2 .ensures .0)) (c .if2 .left)
 
-returns-2 : tie.Need-returns-2 Inv-loop μ-loop
-returns-2 c =
-    let a = c .before .before .before .before .args in
+returns-3 : tie.Need-returns-3 Inv-loop μ-loop
+returns-3 c =
+    let a = c .before .before .before .before .before .args in
     finds-none (c .before .loop .inv) (c .loop-test .left) ∙ pair-by-index (a .pairs) (a .earlier) (a .later)
 
 pub is-pair-spec : {M : Type 1} → statement M
@@ -67,14 +73,15 @@ is-pair-spec =
     (tie.spec
     Inv-loop
     μ-loop
+    returns
     loop-holds
     array-read-wide
     wide-requires
     array-read-wide-2
     wide-requires-2
     both-requires
-    returns
+    returns-2
     add-k
     loop-less
     loop-again
-    returns-2)
+    returns-3)

@@ -1,20 +1,19 @@
 -- Each turn makes one word.
 use Prim.Native.Nat.{_-_}
 use native.Mathlib.Omega.{arith}
-use mathlib.Core.Path.{refl}
 use Rattle.rows.proofs.TableLaws.{Begun, begun-none, begun-more, begun}
 use borrow.Author.Needs.{needs}
-use Rattle.rows.proofs.table.no_rows.Statement.{statement}
-use Rattle.rows.proofs.table.no_rows.Tie as tie
+use Rattle.rows.proofs.table.put_first.Statement.{statement}
+use Rattle.rows.proofs.table.put_first.Tie as tie
 
 abbrev Inv-loop : tie.InvT-loop
-Inv-loop x rows₀ c₀ rows c = Begun x rows c
+Inv-loop rows₀ x c₀ rows c = Begun x rows c
 
 abbrev μ-loop : tie.MeasureT-loop
-μ-loop x rows₀ c₀ rows c = 128 - c
+μ-loop rows₀ x c₀ rows c = 128 - c
 
 loop-holds : tie.Need-loop-holds Inv-loop μ-loop
-loop-holds c = begun-none refl
+loop-holds c = begun-none (c .pre)
 
 initial-word-requires : tie.Need-initial-word-requires Inv-loop μ-loop
 initial-word-requires c κs = search needs
@@ -25,8 +24,8 @@ add-rows c = search needs
 mul-rows : tie.Need-mul-rows Inv-loop μ-loop
 mul-rows c = search needs
 
-array-write-rows : tie.Need-array-write-rows Inv-loop μ-loop
-array-write-rows c = search needs
+element-write-rows : tie.Need-element-write-rows Inv-loop μ-loop
+element-write-rows c = search needs
 
 add-c : tie.Need-add-c Inv-loop μ-loop
 add-c c = search needs
@@ -38,10 +37,10 @@ loop-again : tie.Need-loop-again Inv-loop μ-loop
 loop-again c = begun-more (c .before .before .loop .inv) (c .before .loop-test .taken) (c .initial-word .result) (c .initial-word .ensures)
 
 returns : tie.Need-returns Inv-loop μ-loop
-returns c = begun (c .before .loop .inv) (c .loop-test .left)
+returns c = (c .before .loop .inv .long, begun (c .before .loop .inv) (c .loop-test .left))
 
-pub no-rows-spec : {M : Type 1} → statement M
-no-rows-spec =
+pub put-first-spec : {M : Type 1} → statement M
+put-first-spec =
     tie.close
     (tie.spec
     Inv-loop
@@ -50,7 +49,7 @@ no-rows-spec =
     initial-word-requires
     add-rows
     mul-rows
-    array-write-rows
+    element-write-rows
     add-c
     loop-less
     loop-again
