@@ -56,52 +56,83 @@ fn chain_table_line(execution: &Execution) {
     );
 }
 
+/// The times of two calls in microseconds and their ratio: medians over rounds in which the two take turns, so that what else the machine does meets both.
+struct Beside {
+    proved: f64,
+    reference: f64,
+    ratio: f64,
+}
+
+fn beside(calls: u32, mut proved: impl FnMut(), mut reference: impl FnMut()) -> Beside {
+    let rounds: Vec<(f64, f64)> = (0..ROUNDS)
+        .map(|_| {
+            (
+                microseconds(calls, &mut proved),
+                microseconds(calls, &mut reference),
+            )
+        })
+        .collect();
+    Beside {
+        proved: median(rounds.iter().map(|round| round.0).collect()),
+        reference: median(rounds.iter().map(|round| round.1).collect()),
+        ratio: median(rounds.iter().map(|round| round.0 / round.1).collect()),
+    }
+}
+
+fn median(mut values: Vec<f64>) -> f64 {
+    values.sort_by(f64::total_cmp);
+    values[values.len() / 2]
+}
+
+/// Both searches from the empty position, taking turns, and the steps that one makes.
+fn search_beside(calls: u32, execution: &Execution, allowance: u32) -> (Beside, u32) {
+    let bytes = execution.to_bytes();
+    let (mut buffer, mut other) = ([0; 128], [0; 128]);
+    let steps = fast::search(&bytes, &mut buffer, 0, allowance).steps;
+    let times = beside(
+        calls,
+        || {
+            let reply = proved::search(&bytes, &mut buffer, 0, allowance);
+            assert_eq!(reply.steps, steps);
+        },
+        || {
+            let reply = fast::search(&bytes, &mut other, 0, allowance);
+            assert_eq!(reply.steps, steps);
+        },
+    );
+    (times, steps)
+}
+
 /// The nanoseconds that a step takes both ways, over steps from the empty position.
 fn search_line(name: &str, execution: &Execution, allowance: u32) {
-    let bytes = execution.to_bytes();
-    let mut buffer = [0; 128];
-    let steps = fast::search(&bytes, &mut buffer, 0, allowance).steps;
-    let rounds = (STEPS_TIMED / steps).max(1);
-    let proved = microseconds(rounds, || {
-        let reply = proved::search(&bytes, &mut buffer, 0, allowance);
-        assert_eq!(reply.steps, steps);
-    });
-    let reference = microseconds(rounds, || {
-        fast::search(&bytes, &mut buffer, 0, allowance);
-    });
+    let (times, steps) = search_beside(1, execution, allowance);
     let per_step = |time: f64| time * 1e3 / f64::from(steps);
     println!(
         "search, {name}, {} operations, {steps} steps: proved {:.1} ns a step, plain Rust {:.1} ns, ratio {:.2}",
         execution.operation_count(),
-        per_step(proved),
-        per_step(reference),
-        proved / reference
+        per_step(times.proved),
+        per_step(times.reference),
+        times.ratio
     );
 }
 
 /// The microseconds that a whole call takes both ways: reading, questions, tables, and the steps it makes.
 fn call_line(name: &str, execution: &Execution, allowance: u32) {
-    let bytes = execution.to_bytes();
-    let mut buffer = [0; 128];
-    let steps = fast::search(&bytes, &mut buffer, 0, allowance).steps;
-    let proved = microseconds(CALLS_TIMED, || {
-        let reply = proved::search(&bytes, &mut buffer, 0, allowance);
-        assert_eq!(reply.steps, steps);
-    });
-    let reference = microseconds(CALLS_TIMED, || {
-        fast::search(&bytes, &mut buffer, 0, allowance);
-    });
+    let (times, steps) = search_beside(CALLS_A_ROUND, execution, allowance);
     println!(
-        "search call, {name}, {} operations, {steps} steps: proved {proved:.1} us, plain Rust {reference:.1} us",
-        execution.operation_count()
+        "search call, {name}, {} operations, {steps} steps: proved {:.1} us, plain Rust {:.1} us, ratio {:.2}",
+        execution.operation_count(),
+        times.proved,
+        times.reference,
+        times.ratio
     );
 }
 
-/// Calls over which a call is timed.
-const CALLS_TIMED: u32 = 2_000;
+/// Rounds of which the median is taken.
+const ROUNDS: usize = 41;
 
-/// Steps over which a search is timed.
-const STEPS_TIMED: u32 = 200_000;
+/// Whole calls that a round times.
+const CALLS_A_ROUND: u32 = 100;
 
 /// Four processors that store to one byte and load it, so that each load overlaps every store; the last load forbids it all.
 fn overlapping_loads() -> Execution {
