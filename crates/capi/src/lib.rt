@@ -2,17 +2,17 @@
 ghost use mathlib.Core.Path.{_≡_};
 ghost use Rattle.model.specs.Calls.{readAll, judgeCall, tableCall, searchCall};
 ghost use Rattle.capi.specs.Numbers.{checkNumber, judgeNumber, chainsNumber, Searched};
-use chain_table::TableAnswer;
-use format::reader::Answer;
-use judge::Judgement;
-use search::call::SearchAnswer;
+use judge_call::Judgement;
+use record_reader::reader::Answer;
+use relation_chain_table::TableAnswer;
+use search_call::call::SearchAnswer;
 
 // Whether a record passes questions 1 to 15: 0, or 256 + the first question that fails.
 #[no_mangle]
 pub extern "C" fn oglindesh_check(bytes: &[u8]) -> u32
     ensures { λ r. ⌜ r ≡ checkNumber (readAll (now (bytes .entry))) ⌝ }
 {
-    let reading = format::reader::read(bytes);
+    let reading = record_reader::reader::read(bytes);
     let answer = reading.answer;
     match answer {
         Answer::Accepted => 0,
@@ -25,7 +25,7 @@ pub extern "C" fn oglindesh_check(bytes: &[u8]) -> u32
 pub extern "C" fn oglindesh_judge(bytes: &[u8], order: &[u8]) -> u32
     ensures { λ r. ⌜ r ≡ judgeNumber (judgeCall (now (bytes .entry)) (now (order .entry))) ⌝ }
 {
-    let judgement = judge::judge(bytes, order);
+    let judgement = judge_call::judge(bytes, order);
     match judgement {
         Judgement::Refused(q) => 256 + q as u32,
         Judgement::Legal => 0,
@@ -38,7 +38,7 @@ pub extern "C" fn oglindesh_judge(bytes: &[u8], order: &[u8]) -> u32
 pub extern "C" fn oglindesh_chains(bytes: &[u8], table: &mut [u8]) -> u32
     ensures { λ r. ⌜ (r ≡ chainsNumber ((tableCall (now (bytes .entry)) (now (table .entry))) .answer)) × (now (table .exit) ≡ (tableCall (now (bytes .entry)) (now (table .entry))) .table) ⌝ }
 {
-    let answer = chain_table::chain_table(bytes, table);
+    let answer = relation_chain_table::chain_table(bytes, table);
     match answer {
         TableAnswer::Done => 0,
         TableAnswer::Refused(q) => 256 + q as u32,
@@ -64,7 +64,7 @@ pub extern "C" fn oglindesh_search(
 ) -> SearchReply
     ensures { λ r. ⌜ Searched (searchCall (now (bytes .entry)) (now (buffer .entry)) saved allowance) r (now (buffer .exit)) ⌝ }
 {
-    let reply = search::call::search(bytes, buffer, saved, allowance);
+    let reply = search_call::call::search(bytes, buffer, saved, allowance);
     let found = reply.answer;
     let steps = reply.steps;
     let length = reply.length;

@@ -10,8 +10,8 @@ use Rattle.model.specs.Search.{Verdict, allowed, forbidden, unfinished}
 use Rattle.model.specs.Calls as calls
 use Rattle.model.specs.Calls.{Answer, says, refuses, answerOf, searching, searchReply, searchCall}
 use Rattle.model.specs.Verdict.{callAllowance, callLimit, isUnfinished, callOnce, callOn, notCalled}
-use Rattle.search.specs.Calls.{answerMeant, replyOf}
-use Rattle.search.specs.declared.call.SearchReply.{SearchReply}
+use Rattle.search_call.specs.Calls.{answerMeant, replyOf}
+use Rattle.search_call.specs.declared.call.SearchReply.{SearchReply}
 
 is-unfinished : (a : Answer Verdict) → isUnfinished a ≡ true → a ≡ says unfinished
 is-unfinished (says allowed) h = absurd (false≢true h)

@@ -10,8 +10,8 @@ use Rattle.model.specs.Search.{Verdict, allowed, forbidden, unfinished}
 use Rattle.model.specs.Calls as calls
 use Rattle.model.specs.Calls.{Answer, says, refuses}
 use Rattle.model.specs.Verdict.{inputLimit, callLimit, notCalled, callOn, blank, decimal, wordSteps, lineFeed, lines, verdictLines}
-use Rattle.search.specs.Calls.{answerMeant}
-use Rattle.search.specs.declared.call.SearchAnswer.{SearchAnswer}
+use Rattle.search_call.specs.Calls.{answerMeant}
+use Rattle.search_call.specs.declared.call.SearchAnswer.{SearchAnswer}
 use Rattle.verdict.specs.declared.calls.Total.{Total}
 use Rattle.verdict.specs.Totals.{totalOf}
 use Rattle.verdict.specs.Texts.{printed, linesLimit, Prints, Appends}

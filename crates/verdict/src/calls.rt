@@ -3,11 +3,11 @@ ghost use mathlib.Core.Path.{_≡_};
 ghost use Prim.Native.Nat.{_≤_};
 ghost use lib.ListN as ListN;
 ghost use Rattle.model.specs.Verdict.{callLimit, notCalled, isUnfinished, callOn};
-ghost use Rattle.search.specs.Calls.{answerMeant};
+ghost use Rattle.search_call.specs.Calls.{answerMeant};
 ghost use Rattle.verdict.specs.Totals.{totalOf};
-use positions::Position;
-use search::call::SearchAnswer;
-use search::call::search;
+use record_decoded::position::Position;
+use search_call::call::SearchAnswer;
+use search_call::call::search;
 
 // The most calls.
 pub const CALL_LIMIT: u64 = 100;

@@ -15,7 +15,7 @@ use crate::calls::Total;
 use crate::calls::search_in_calls;
 use crate::text::write_decimal;
 use crate::text::write_word;
-use search::call::SearchAnswer;
+use search_call::call::SearchAnswer;
 
 // The most bytes that are taken as the record.
 pub const INPUT_LIMIT: usize = 1024;

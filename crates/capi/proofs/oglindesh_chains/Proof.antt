@@ -1,7 +1,7 @@
 -- The chain table's answer as a number, and the table as it is left.
 use mathlib.Core.Path.{sym, ap, _∙_}
 use Rattle.model.specs.Calls.{TableReply}
-use Rattle.chain_table.specs.Replies.{replyOf}
+use Rattle.relation_chain_table.specs.Replies.{replyOf}
 use Rattle.capi.specs.Numbers.{chainsNumber}
 use borrow.Author.Needs.{needs}
 use Rattle.capi.proofs.oglindesh_chains.Statement.{statement}

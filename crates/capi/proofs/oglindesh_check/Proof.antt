@@ -1,7 +1,7 @@
 -- The reader's answer as a number.
 use mathlib.Core.Path.{sym, ap, _∙_}
 use Rattle.capi.specs.Numbers.{checkNumber}
-use Rattle.format.specs.Readings.{answerMeant}
+use Rattle.record_reader.specs.Readings.{answerMeant}
 use borrow.Author.Needs.{needs}
 use Rattle.capi.proofs.oglindesh_check.Statement.{statement}
 use Rattle.capi.proofs.oglindesh_check.Tie as tie

@@ -1,6 +1,6 @@
 -- The judge's answer as a number.
 use mathlib.Core.Path.{sym, ap, _∙_}
-use Rattle.judge.specs.Judgements.{judgementMeant}
+use Rattle.judge_call.specs.Judgements.{judgementMeant}
 use Rattle.capi.specs.Numbers.{judgeNumber}
 use borrow.Author.Needs.{needs}
 use Rattle.capi.proofs.oglindesh_judge.Statement.{statement}

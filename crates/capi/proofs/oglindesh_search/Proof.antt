@@ -3,9 +3,9 @@ use mathlib.Core.Path.{_≡_, sym, ap, _∙_}
 use Prim.Native.Nat.{ℕ}
 use mathlib.Core.List.{List}
 use Rattle.model.specs.Calls as calls
-use Rattle.search.specs.Calls.{answerMeant, replyOf}
-use Rattle.search.specs.declared.call.SearchAnswer.{SearchAnswer}
-use Rattle.search.specs.declared.call.SearchReply.{SearchReply}
+use Rattle.search_call.specs.Calls.{answerMeant, replyOf}
+use Rattle.search_call.specs.declared.call.SearchAnswer.{SearchAnswer}
+use Rattle.search_call.specs.declared.call.SearchReply.{SearchReply}
 use Rattle.capi.specs.Numbers.{searchNumber}
 use borrow.Author.Needs.{needs}
 use Rattle.capi.proofs.oglindesh_search.Statement.{statement}

@@ -1,0 +1,153 @@
+-- What the tests of one byte of a load come to, case by case.
+use Prim.Native.Nat.{ℕ, _+_, _-_, _*_, _/_, _%_, _≤_, _<_}
+use native.Mathlib.Omega.{arith}
+use mathlib.Core.Path.{_≡_, sym, ap, _∙_}
+use mathlib.Core.Bool.{Bool, true, false, not, _||_, and-false}
+use mathlib.Core.List.{List}
+use lib.ListN.{getD, take, drop, length-take, List·getD-eq-default}
+use lib.Seq.{getD-take, getD-drop}
+use lib.Dec.{eqb, leb, ltb}
+use borrow.Author.Tests.{lt-ltb, le-ltb, le-leb, lt-leb, leb-true}
+use Rattle.base.specs.Below.{anyBelow}
+use Rattle.base.proofs.Bools.{and-parts}
+use Rattle.base.proofs.Lists.{getD-below}
+use Rattle.model.specs.Execution.{Line, noLine, Kind, kindOf, isLoad, isStore}
+use Rattle.model.specs.Rules.{accesses}
+use Rattle.record_decoded.specs.declared.types.Lines.{Lines}
+use Rattle.record_decoded.specs.declared.types.Instructions.{Instructions}
+use Rattle.record_decoded.specs.declared.types.Execution.{Execution}
+use Rattle.record_decoded.specs.Decoded.{eight, lineAt, linesOf, instructionAt}
+use Rattle.record_decoded.proofs.Arrays.{lines-length}
+use Rattle.relation_places.specs.Places.{placed}
+use Rattle.judge_sights.specs.declared.Latest.{Latest}
+use Rattle.judge_sights.specs.Sights.{initialOf, dataByte, writesTo, ownOf, firstOf, remoteTo, makesLocal, mayGive, visibleBy, laterBy, latestWith, readBy, sightBroken, loadBroken}
+
+-- the initial byte of an address past the lines, and of one in them
+module _ (x : Lines) (address : ℕ) where
+  pub initial-past : x .count ≤ address / 8 → 0 ≡ initialOf x address
+  unfolding initialOf
+  initial-past h =
+      sym (ap (λ (l : Line). getD (l .initial) (address % 8) 0)
+      (List·getD-eq-default (linesOf x) noLine {n = address / 8} (omega (arith, lines-length x))))
+
+  pub initial-there : address / 8 < x .count → getD (x .initial) address 0 ≡ initialOf x address
+  unfolding initialOf linesOf lineAt eight
+  initial-there h =
+      sym (ap (λ (l : Line). getD (l .initial) (address % 8) 0) (getD-below (lineAt x) noLine (x .count) (address / 8) h)
+      ∙ getD-take 8 (drop (8 * (address / 8)) (x .initial)) (address % 8) 0 (omega arith)
+      ∙ getD-drop (8 * (address / 8)) (x .initial) (address % 8) 0
+      ∙ ap (λ (k : ℕ). getD (x .initial) k 0) (let z : 8 * (address / 8) + address % 8 ≡ address = omega arith in z))
+
+-- a byte past an instruction's size, past the eight that the arrays hold, and one that is there
+module _ (is : Instructions) (i k : ℕ) where
+  pub byte-past : getD (is .sizes) i 0 ≤ k → 0 ≡ dataByte is i k
+  unfolding dataByte instructionAt
+  byte-past h =
+      sym (List·getD-eq-default (take (getD (is .sizes) i 0) (eight (is .bytes) i)) 0 {n = k}
+      (omega (arith, length-take (getD (is .sizes) i 0) (eight (is .bytes) i))))
+
+  pub byte-ninth : 8 ≤ k → 0 ≡ dataByte is i k
+  unfolding dataByte instructionAt eight
+  byte-ninth h =
+      sym (List·getD-eq-default (take (getD (is .sizes) i 0) (take 8 (drop (8 * i) (is .bytes)))) 0 {n = k}
+      (omega (
+        arith,
+        length-take (getD (is .sizes) i 0) (take 8 (drop (8 * i) (is .bytes))),
+        length-take 8 (drop (8 * i) (is .bytes)),
+      )))
+
+  pub byte-there : k < getD (is .sizes) i 0 → k < 8 → getD (is .bytes) (8 * i + k) 0 ≡ dataByte is i k
+  unfolding dataByte instructionAt eight
+  byte-there h h8 =
+      sym (getD-take (getD (is .sizes) i 0) (take 8 (drop (8 * i) (is .bytes))) k 0 h
+      ∙ getD-take 8 (drop (8 * i) (is .bytes)) k 0 h8
+      ∙ getD-drop (8 * i) (is .bytes) k 0)
+
+-- whether an instruction is a store to a byte
+module _ (is : Instructions) (w address : ℕ) (kind : Kind) (k-is : kind ≡ kindOf (getD (is .kinds) w 0)) where
+  pub writes-none : isStore kind ≡ false → false ≡ writesTo is address w
+  unfolding writesTo instructionAt
+  writes-none h = rw (← k-is, h)
+
+  pub writes-above : address < getD (is .addresses) w 0 → false ≡ writesTo is address w
+  unfolding writesTo accesses instructionAt
+  writes-above h = rw (lt-leb (getD (is .addresses) w 0) address h) (sym (and-false (isStore (kindOf (getD (is .kinds) w 0)))))
+
+  pub writes-there : isStore kind ≡ true → getD (is .addresses) w 0 ≤ address
+      → ltb address (getD (is .addresses) w 0 + getD (is .sizes) w 0) ≡ writesTo is address w
+  unfolding writesTo accesses instructionAt
+  writes-there h l = rw (← k-is, h, le-leb (getD (is .addresses) w 0) address l)
+
+-- one store more
+module _ (is : Instructions) (places : List ℕ) (load address : ℕ) (local : Bool) (w : ℕ) (latest : Latest) where
+  pub latest-none : mayGive is load address local w ≡ false → latest ≡ latestWith is places load address local w latest
+  unfolding latestWith
+  latest-none h = rw h
+
+  module _ (p r : ℕ) (p-is : p ≡ placed places (visibleBy is load local w)) (r-is : r ≡ placed places (firstOf is load)) where
+    pub latest-past : r ≤ p → latest ≡ latestWith is places load address local w latest
+    unfolding latestWith laterBy
+    latest-past h = rw (← p-is, ← r-is, le-ltb p r h, and-false (mayGive is load address local w))
+
+    pub latest-before : p < latest .next → latest ≡ latestWith is places load address local w latest
+    unfolding latestWith laterBy
+    latest-before h = rw (← p-is, ← r-is, lt-leb (latest .next) p h, and-false (ltb p r), and-false (mayGive is load address local w))
+
+    pub latest-given : mayGive is load address local w ≡ true → p < r → latest .next ≤ p
+        → (v from : ℕ) → from ≡ getD (is .addresses) w 0 → v ≡ dataByte is w (address - from)
+        → record { next = p + 1; value = v } ≡ latestWith is places load address local w latest
+    unfolding latestWith laterBy instructionAt
+    latest-given h l m v from f e = rw (← p-is, ← r-is, h, lt-ltb p r l, le-leb (latest .next) p m, ← f, ← e)
+
+-- a store that may give the byte does not begin after it
+pub gives-from : (is : Instructions) (load address : ℕ) (local : Bool) (w from : ℕ) → from ≡ getD (is .addresses) w 0 → mayGive is load address local w ≡ true → from ≤ address
+unfolding mayGive writesTo accesses instructionAt
+gives-from is load address local w from f h =
+    let m = and-parts (writesTo is address w) (not local || ownOf is load w) h in
+    let a = and-parts (isStore (instructionAt is w .kind)) (accesses (instructionAt is w) address) (m .0) in
+    let l = and-parts (leb (getD (is .addresses) w 0) address) (ltb address (getD (is .addresses) w 0 + getD (is .sizes) w 0)) (a .1) in
+    omega (arith, leb-true (getD (is .addresses) w 0) address (l .0))
+
+-- whether a store makes the load local
+module _ (is : Instructions) (places : List ℕ) (load address w : ℕ) where
+  pub local-none : writesTo is address w ≡ false → false ≡ makesLocal is places load address w
+  unfolding makesLocal
+  local-none h = rw h
+
+  pub local-other : ownOf is load w ≡ false → false ≡ makesLocal is places load address w
+  unfolding makesLocal
+  local-other h = rw h (sym (and-false (writesTo is address w)))
+
+  module _ (lv r : ℕ) (lv-is : lv ≡ firstOf is w) (r-is : r ≡ firstOf is load) where
+    pub local-late : ltb (placed places lv) (placed places r) ≡ false → false ≡ makesLocal is places load address w
+    unfolding makesLocal
+    local-late h =
+        rw (← lv-is, ← r-is, h, and-false (ownOf is load w)) (sym (and-false (writesTo is address w)))
+
+    pub local-is : writesTo is address w ≡ true → ownOf is load w ≡ true → ltb (placed places lv) (placed places r) ≡ true
+        → (rv : ℕ) → rv ≡ remoteTo is load w → ltb (placed places r) (placed places rv) ≡ makesLocal is places load address w
+    unfolding makesLocal
+    local-is h k l rv rv-is = rw (← lv-is, ← r-is, ← rv-is, h, k, l)
+
+-- one byte of a load
+module _ (x : Execution) (places : List ℕ) (load k p : ℕ) (p-is : p ≡ placed places (firstOf (x .instructions) load)) where
+  pub sight-absent : 255 ≤ p → false ≡ sightBroken x places load k
+  unfolding sightBroken
+  sight-absent h = rw (← p-is, le-ltb p 255 h)
+
+  pub sight-is : p < 255 → (from given seen : ℕ) → from ≡ getD (x .instructions .addresses) load 0
+      → given ≡ readBy x places load (from + k) → seen ≡ dataByte (x .instructions) load k
+      → not (eqb given seen) ≡ sightBroken x places load k
+  unfolding sightBroken instructionAt
+  sight-is h from given seen f g s = rw (← p-is, lt-ltb p 255 h, ← f, ← g, ← s)
+
+-- the bytes of a load
+module _ (x : Execution) (places : List ℕ) (i : ℕ) (kind : Kind) (k-is : kind ≡ kindOf (getD (x .instructions .kinds) i 0)) where
+  pub load-none : isLoad kind ≡ false → false ≡ loadBroken x places i
+  unfolding loadBroken instructionAt
+  load-none h = rw (← k-is, h)
+
+  pub load-is : isLoad kind ≡ true → (size : ℕ) → size ≡ getD (x .instructions .sizes) i 0 → (b : Bool) → b ≡ anyBelow size (sightBroken x places i)
+      → b ≡ loadBroken x places i
+  unfolding loadBroken instructionAt
+  load-is h size s b e = rw (← k-is, h, ← s) e

@@ -1,0 +1,94 @@
+-- Rule 11 for one byte of a load, from the decoded arrays and a table of places.
+use Prim.Native.Nat.{ℕ, suc, _+_, _-_, _/_, _%_}
+use mathlib.Core.Bool.{Bool, not, cond, _&&_, _||_}
+use mathlib.Core.List.{List}
+use lib.ListN.{getD}
+use lib.Dec.{eqb, leb, ltb}
+use Rattle.base.specs.Below.{anyBelow}
+use Rattle.base.specs.Fold.{fold}
+use Rattle.model.specs.Execution.{noLine, isLoad, isStore}
+use Rattle.model.specs.Rules.{accesses}
+use Rattle.record_decoded.specs.declared.types.Lines.{Lines}
+use Rattle.record_decoded.specs.declared.types.Instructions.{Instructions}
+use Rattle.record_decoded.specs.declared.types.Execution.{Execution}
+use Rattle.record_decoded.specs.Decoded.{linesOf, instructionAt}
+use Rattle.relation_places.specs.Places.{placed}
+use Rattle.judge_sights.specs.declared.Latest.{Latest}
+
+-- the byte that an address holds at the start
+unfoldable pub initialOf : Lines → ℕ → ℕ
+initialOf x address = getD (getD (linesOf x) (address / 8) noLine .initial) (address % 8) 0
+
+module _ (is : Instructions) where
+  -- byte k of what an instruction saw or wrote
+  unfoldable pub dataByte : ℕ → ℕ → ℕ
+  dataByte i k = getD (instructionAt is i .bytes) k 0
+
+  -- instruction w is a store to the byte at an address
+  unfoldable pub writesTo : ℕ → ℕ → Bool
+  writesTo address w = isStore (instructionAt is w .kind) && accesses (instructionAt is w) address
+
+  -- instruction w is of the load's processor
+  unfoldable pub ownOf : ℕ → ℕ → Bool
+  ownOf load w = eqb (instructionAt is w .processor) (instructionAt is load .processor)
+
+  -- the number of a load's R or a store's LV
+  unfoldable pub firstOf : ℕ → ℕ
+  firstOf i = instructionAt is i .first
+
+  -- the number of a store's RV to the load's processor
+  unfoldable pub remoteTo : ℕ → ℕ → ℕ
+  remoteTo load w = suc (instructionAt is w .first) + instructionAt is load .processor
+
+  -- store w may give the load its byte: a local load takes none but its own processor's
+  unfoldable pub mayGive : ℕ → ℕ → Bool → ℕ → Bool
+  mayGive load address local w = writesTo address w && (not local || ownOf load w)
+
+  -- the operation that makes store w visible to the load
+  unfoldable pub visibleBy : ℕ → Bool → ℕ → ℕ
+  visibleBy load local w = cond local (firstOf w) (remoteTo load w)
+
+module _ (is : Instructions) (places : List ℕ) (load address : ℕ) where
+  -- store w makes the load local: it is its own processor's, LV before R before RV
+  unfoldable pub makesLocal : ℕ → Bool
+  makesLocal w =
+      writesTo is address w
+      && (ownOf is load w
+      && (ltb (placed places (firstOf is w)) (placed places (firstOf is load))
+      && ltb (placed places (firstOf is load)) (placed places (remoteTo is load w))))
+
+  unfoldable pub localBy : Bool
+  localBy = anyBelow (is .count) makesLocal
+
+  -- the operation at `place` stands before R, and not before `next`
+  unfoldable pub laterBy : ℕ → ℕ → Bool
+  laterBy place next = ltb place (placed places (firstOf is load)) && leb next place
+
+  -- the latest before R, one store more
+  unfoldable pub latestWith : Bool → ℕ → Latest → Latest
+  latestWith local w latest =
+      cond (mayGive is load address local w && laterBy (placed places (visibleBy is load local w)) (latest .next))
+      (record { next = placed places (visibleBy is load local w) + 1; value = dataByte is w (address - instructionAt is w .address) })
+      latest
+
+  -- the byte of the latest before R of all stores
+  unfoldable pub latestBy : Bool → ℕ → ℕ
+  latestBy local initial = fold (is .count) (latestWith local) (record { next = 0; value = initial }) .value
+
+module _ (x : Execution) (places : List ℕ) (load : ℕ) where
+  -- the byte that the load sees at an address
+  unfoldable pub readBy : ℕ → ℕ
+  readBy address =
+      latestBy (x .instructions) places load address (localBy (x .instructions) places load address) (initialOf (x .lines) address)
+
+  -- the load stands, and its byte k is another
+  unfoldable pub sightBroken : ℕ → Bool
+  sightBroken k =
+      ltb (placed places (firstOf (x .instructions) load)) 255
+      && not (eqb (readBy (instructionAt (x .instructions) load .address + k)) (dataByte (x .instructions) load k))
+
+  -- some byte is another
+  unfoldable pub loadBroken : Bool
+  loadBroken =
+      isLoad (instructionAt (x .instructions) load .kind)
+      && anyBelow (instructionAt (x .instructions) load .size) sightBroken

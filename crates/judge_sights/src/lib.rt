@@ -1,0 +1,288 @@
+// Rule 11, from places: whether some byte of a load that stands is not the byte that the rule gives.
+ghost use mathlib.Core.Path.{_≡_};
+ghost use mathlib.Core.List.{List};
+ghost use Prim.Native.Nat.{ℕ, _<_, _≤_};
+ghost use lib.ListN.{getD};
+ghost use Rattle.base.specs.Lists.{any};
+ghost use Rattle.model.specs.Rules.{rule11, broken};
+ghost use Rattle.record_decoded.specs.Decoded.{executionOf};
+ghost use Rattle.relation_places.specs.Places.{Placed};
+ghost use Rattle.judge_sights.specs.Sights.{initialOf, dataByte, writesTo, ownOf, firstOf, remoteTo, mayGive, visibleBy, makesLocal, localBy, latestWith, latestBy, readBy, sightBroken, loadBroken};
+use record_decoded::kind::is_load;
+use record_decoded::kind::is_store;
+use record_decoded::kind::kind_of;
+use record_decoded::types::Execution;
+use record_decoded::types::Instructions;
+use record_decoded::types::Lines;
+use record_decoded::types::wide;
+use record_decoded::types::wide16;
+use relation_places::ABSENT;
+use relation_places::before;
+use relation_places::place_of;
+
+// The latest so far: the place after its operation, 0 with none, and the byte it gives.
+struct Latest {
+    next: usize,
+    value: u8,
+}
+
+// The byte that an address holds at the start.
+fn initial_byte(lines: Lines, address: usize) -> u8
+    requires { ⌜ lines .count ≤ 8 ⌝ }
+    ensures { λ r. ⌜ r ≡ initialOf lines address ⌝ }
+{
+    if lines.count <= address / 8 {
+        return 0;
+    }
+    let initial = lines.initial;
+    initial[address]
+}
+
+// Byte k of what instruction i saw or wrote.
+fn data_byte(is: Instructions, i: usize, k: usize) -> u8
+    requires { ⌜ i < 40 ⌝ }
+    ensures { λ r. ⌜ r ≡ dataByte is i k ⌝ }
+{
+    let sizes = is.sizes;
+    let size = wide(sizes[i]);
+    if size <= k {
+        return 0;
+    }
+    if 8 <= k {
+        return 0;
+    }
+    let bytes = is.bytes;
+    bytes[8 * i + k]
+}
+
+// The first address that instruction i accesses.
+fn address_of(is: Instructions, i: usize) -> usize
+    requires { ⌜ i < 40 ⌝ }
+    ensures { λ r. ⌜ (r ≡ getD (is .addresses) i 0) × (r < 256) ⌝ }
+{
+    let addresses = is.addresses;
+    wide(addresses[i])
+}
+
+// How many addresses instruction i accesses.
+fn size_of(is: Instructions, i: usize) -> usize
+    requires { ⌜ i < 40 ⌝ }
+    ensures { λ r. ⌜ (r ≡ getD (is .sizes) i 0) × (r < 256) ⌝ }
+{
+    let sizes = is.sizes;
+    wide(sizes[i])
+}
+
+// The number of instruction i's first operation: a load's R, a store's LV.
+fn first_of(is: Instructions, i: usize) -> usize
+    requires { ⌜ i < 40 ⌝ }
+    ensures { λ r. ⌜ (r ≡ firstOf is i) × (r < 65536) ⌝ }
+{
+    let firsts = is.firsts;
+    wide16(firsts[i])
+}
+
+// The number of store w's RV to the load's processor.
+fn remote_to(is: Instructions, w: usize, load: usize) -> usize
+    requires { ⌜ (w < 40) × (load < 40) ⌝ }
+    ensures { λ r. ⌜ r ≡ remoteTo is load w ⌝ }
+{
+    let processors = is.processors;
+    let p = wide(processors[load]);
+    let first = first_of(is, w);
+    first + 1 + p
+}
+
+// Whether instruction w is a store to the byte at an address.
+fn writes_to(is: Instructions, w: usize, address: usize) -> bool
+    requires { ⌜ w < 40 ⌝ }
+    ensures { λ r. ⌜ r ≡ writesTo is address w ⌝ }
+{
+    let kinds = is.kinds;
+    let kind = kind_of(kinds[w]);
+    if !is_store(kind) {
+        return false;
+    }
+    let from = address_of(is, w);
+    if address < from {
+        return false;
+    }
+    let end = from + size_of(is, w);
+    address < end
+}
+
+// Whether instruction w is of the load's processor.
+fn own_of(is: Instructions, w: usize, load: usize) -> bool
+    requires { ⌜ (w < 40) × (load < 40) ⌝ }
+    ensures { λ r. ⌜ r ≡ ownOf is load w ⌝ }
+{
+    let processors = is.processors;
+    processors[w] == processors[load]
+}
+
+// Whether store w makes the load local for the byte.
+fn makes_local(is: Instructions, places: &[u8; 128], w: usize, load: usize, address: usize) -> bool
+    requires { ⌜ (w < 40) × (load < 40) ⌝ }
+    ensures { λ r. ⌜ r ≡ makesLocal is (now (places .entry)) load address w ⌝ }
+{
+    if !writes_to(is, w, address) {
+        return false;
+    }
+    if !own_of(is, w, load) {
+        return false;
+    }
+    let reads = first_of(is, load);
+    if !before(places, first_of(is, w), reads) {
+        return false;
+    }
+    before(places, reads, remote_to(is, w, load))
+}
+
+// Whether the load is local for the byte.
+fn is_local(is: Instructions, places: &[u8; 128], load: usize, address: usize) -> bool
+    requires { ⌜ (is .count ≤ 40) × (load < 40) ⌝ }
+    ensures { λ r. ⌜ r ≡ localBy is (now (places .entry)) load address ⌝ }
+{
+    for w in 0..is.count {
+        if makes_local(is, places, w, load, address) {
+            return true;
+        }
+    }
+    false
+}
+
+// Whether store w may give the load its byte.
+fn may_give(is: Instructions, w: usize, load: usize, address: usize, local: bool) -> bool
+    requires { ⌜ (w < 40) × (load < 40) ⌝ }
+    ensures { λ r. ⌜ r ≡ mayGive is load address local w ⌝ }
+{
+    if !writes_to(is, w, address) {
+        return false;
+    }
+    if local {
+        return own_of(is, w, load);
+    }
+    true
+}
+
+// The operation that makes store w visible to the load.
+fn visible_by(is: Instructions, w: usize, load: usize, local: bool) -> usize
+    requires { ⌜ (w < 40) × (load < 40) ⌝ }
+    ensures { λ r. ⌜ r ≡ visibleBy is load local w ⌝ }
+{
+    if local {
+        return first_of(is, w);
+    }
+    remote_to(is, w, load)
+}
+
+// The latest before R, store w taken in.
+fn latest_with(
+    is: Instructions,
+    places: &[u8; 128],
+    w: usize,
+    load: usize,
+    address: usize,
+    local: bool,
+    latest: Latest,
+) -> Latest
+    requires { ⌜ (w < 40) × (load < 40) ⌝ }
+    ensures { λ r. ⌜ r ≡ latestWith is (now (places .entry)) load address local w latest ⌝ }
+{
+    if !may_give(is, w, load, address, local) {
+        return latest;
+    }
+    let place = wide(place_of(places, visible_by(is, w, load, local)));
+    let reads = wide(place_of(places, first_of(is, load)));
+    if reads <= place {
+        return latest;
+    }
+    if place < latest.next {
+        return latest;
+    }
+    let k = address - address_of(is, w);
+    let value = data_byte(is, w, k);
+    let next = place + 1;
+    Latest { next, value }
+}
+
+// The byte of the latest store before R; with none, the initial byte.
+fn latest_byte(
+    is: Instructions,
+    places: &[u8; 128],
+    load: usize,
+    address: usize,
+    local: bool,
+    initial: u8,
+) -> u8
+    requires { ⌜ (is .count ≤ 40) × (load < 40) ⌝ }
+    ensures { λ r. ⌜ r ≡ latestBy is (now (places .entry)) load address local initial ⌝ }
+{
+    let mut latest = Latest {
+        next: 0,
+        value: initial,
+    };
+    for w in 0..is.count {
+        latest = latest_with(is, places, w, load, address, local, latest);
+    }
+    latest.value
+}
+
+// The byte that the rule has the load see at an address.
+fn byte_read(x: Execution, places: &[u8; 128], load: usize, address: usize) -> u8
+    requires { ⌜ (x .instructions .count ≤ 40) × (x .lines .count ≤ 8) × (load < 40) ⌝ }
+    ensures { λ r. ⌜ r ≡ readBy x (now (places .entry)) load address ⌝ }
+{
+    let is = x.instructions;
+    let local = is_local(is, places, load, address);
+    let initial = initial_byte(x.lines, address);
+    latest_byte(is, places, load, address, local, initial)
+}
+
+// Whether the load stands and its byte k is not the one that the rule gives.
+fn sight_broken(x: Execution, places: &[u8; 128], load: usize, k: usize) -> bool
+    requires { ⌜ (x .instructions .count ≤ 40) × (x .lines .count ≤ 8) × (load < 40) × (k < 256) ⌝ }
+    ensures { λ r. ⌜ r ≡ sightBroken x (now (places .entry)) load k ⌝ }
+{
+    let is = x.instructions;
+    if place_of(places, first_of(is, load)) >= ABSENT {
+        return false;
+    }
+    let address = address_of(is, load) + k;
+    let given = byte_read(x, places, load, address);
+    let seen = data_byte(is, load, k);
+    given != seen
+}
+
+// Whether instruction i is a load that breaks the rule.
+pub fn load_broken(x: Execution, places: &[u8; 128], i: usize) -> bool
+    requires { ⌜ (x .instructions .count ≤ 40) × (x .lines .count ≤ 8) × (i < 40) ⌝ }
+    ensures { λ r. ⌜ r ≡ loadBroken x (now (places .entry)) i ⌝ }
+{
+    let is = x.instructions;
+    let kinds = is.kinds;
+    let kind = kind_of(kinds[i]);
+    if !is_load(kind) {
+        return false;
+    }
+    let size = size_of(is, i);
+    for k in 0..size {
+        if sight_broken(x, places, i, k) {
+            return true;
+        }
+    }
+    false
+}
+
+// Whether rule 11 is broken by an order of which these are the places.
+pub fn sights_broken(x: Execution, places: &[u8; 128]) -> bool
+    requires { ⌜ (x .instructions .count ≤ 40) × (x .lines .count ≤ 8) ⌝ }
+    ensures { λ r. ⌜ ((n : ℕ) (xs : List ℕ) → Placed n xs (now (places .entry)) → r ≡ any (broken xs) (rule11 (executionOf x))) ⌝ }
+{
+    for i in 0..x.instructions.count {
+        if load_broken(x, places, i) {
+            return true;
+        }
+    }
+    false
+}

@@ -1,8 +1,0 @@
--- A position of the code as a list of operations.
-use Prim.Native.Nat.{ℕ}
-use mathlib.Core.List.{List}
-use lib.ListN.{take}
-use Rattle.positions.specs.declared.Position.{Position}
-
-abbrev pub positionOf : Position → List ℕ
-positionOf p = take (p .length) (p .entries)

@@ -1,0 +1,64 @@
+-- What the decoded arrays hold, in the model's terms.
+use Prim.Native.Nat.{ℕ, _+_, _*_, _≤_}
+use mathlib.Core.Path.{_≡_}
+use mathlib.Core.List.{List, map}
+use lib.ListN.{getD, take, drop}
+use Rattle.base.specs.Lists.{below}
+use Rattle.model.specs.Execution as model
+use Rattle.model.specs.Execution.{kindOf, attributeOf, operationCount}
+use Rattle.record_decoded.specs.declared.types.Lines.{Lines}
+use Rattle.record_decoded.specs.declared.types.Instructions.{Instructions}
+use Rattle.record_decoded.specs.declared.types.Pairs.{Pairs}
+use Rattle.record_decoded.specs.declared.types.Execution.{Execution}
+
+-- eight bytes of a list, by their place among its eights
+unfoldable pub eight : List ℕ → ℕ → List ℕ
+eight l k = take 8 (drop (8 * k) l)
+
+-- line k
+unfoldable pub lineAt : Lines → ℕ → model.Line
+lineAt x k = record { attribute = attributeOf (getD (x .attributes) k 0); initial = eight (x .initial) k }
+
+unfoldable pub linesOf : Lines → List model.Line
+linesOf x = map (lineAt x) (below (x .count))
+
+-- instruction i
+unfoldable pub instructionAt : Instructions → ℕ → model.Instruction
+instructionAt x i = record {
+  number = i;
+  first = getD (x .firsts) i 0;
+  processor = getD (x .processors) i 0;
+  kind = kindOf (getD (x .kinds) i 0);
+  address = getD (x .addresses) i 0;
+  size = getD (x .sizes) i 0;
+  bytes = take (getD (x .sizes) i 0) (eight (x .bytes) i);
+}
+
+unfoldable pub instructionsOf : Instructions → List model.Instruction
+instructionsOf x = map (instructionAt x) (below (x .count))
+
+-- The arrays hold at most 40 instructions, and `operations` is the number of their operations.
+pub record Counted (processors : ℕ) (x : Instructions) : Type 0 where
+  pub few : x .count ≤ 40
+  pub counted : x .operations ≡ operationCount processors (instructionsOf x)
+  pub bounded : x .operations ≤ 9 * x .count
+
+-- pair k
+unfoldable pub pairAt : Pairs → ℕ → ℕ × ℕ
+pairAt x k = (getD (x .earlier) k 0, getD (x .later) k 0)
+
+unfoldable pub pairsOf : Pairs → List (ℕ × ℕ)
+pairsOf x = map (pairAt x) (below (x .count))
+
+-- the pair at an index of the record
+abbrev pub pairOf : List ℕ → ℕ → ℕ × ℕ
+pairOf part at = (getD part at 0, getD part (at + 1) 0)
+
+-- the execution that the decoded arrays hold
+unfoldable pub executionOf : Execution → model.Execution
+executionOf x = record {
+  processors = x .processors;
+  lines = linesOf (x .lines);
+  instructions = instructionsOf (x .instructions);
+  pairs = pairsOf (x .pairs);
+}

@@ -1,0 +1,47 @@
+-- What a function that reads a part of the record promises.
+use Prim.Native.Nat.{ℕ, _+_, _*_, _≤_}
+use mathlib.Core.Path.{_≡_}
+use mathlib.Core.List.{List, [], _∷_, _++_}
+use lib.ListN.{length, drop}
+use Rattle.model.specs.Questions.{Found, no-to, found}
+use Rattle.model.specs.Execution.{Instruction, operationCount}
+use Rattle.record_decoded.specs.Decoded.{instructionsOf, Counted}
+use Rattle.record_decoded.specs.declared.types.Instructions.{Instructions}
+use Rattle.record_decoded.specs.declared.types.Step.{Step}
+use Rattle.record_decoded.specs.declared.types.Step.the-variants.{Refused, Next}
+use Rattle.record_decoded.specs.declared.types.Asked.{Asked}
+use Rattle.record_decoded.specs.declared.types.Asked.the-variants.{Pass, Fail}
+
+module _ {A : Type 0} where
+  -- a step over a part and the value read, as the model's walk has them
+  abbrev pub foundBy : List ℕ → Step → A → Found A
+  foundBy part (Refused q) a = no-to q
+  foundBy part (Next k) a = found a (drop k part)
+
+-- The walk comes to the step and the value, and a step to the next index stays within the part.
+pub record Walked {A : Type 0} (walk : Found A) (part : List ℕ) (step : Step) (value : A) : Type 0 where
+  pub is : walk ≡ foundBy part step value
+  pub within : (k : ℕ) → step ≡ Next k → k ≤ length part
+
+module _ {A : Type 0} where
+  -- what the questions of an item come to, its value and the bytes after it
+  abbrev pub foundIf : Asked → A → List ℕ → Found A
+  foundIf Pass a rest = found a rest
+  foundIf (Fail q) a rest = no-to q
+
+-- The walk over one item, of `size` bytes from `at` on, comes to what its questions come to, and an item that passes ends within the part.
+pub record Answered {A : Type 0} (walk : Found A) (part : List ℕ) (at size : ℕ) (asked : Asked) (value : A) : Type 0 where
+  pub is : walk ≡ foundIf asked value (drop (at + size) part)
+  pub ends : asked ≡ Pass → at + size ≤ length part
+
+-- A walk over instructions, whose arrays stay counted
+pub record InstructionsWalked (processors : ℕ) (walk : Found (List Instruction)) (part : List ℕ) (step : Step) (value : Instructions) : Type 0 where
+  pub walked : Walked walk part step (instructionsOf value)
+  pub counts : Counted processors value
+
+-- One instruction more: the arrays hold it after those before it, and count its operations.
+pub record InstructionMore (processors : ℕ) (x r : Instructions) (i : Instruction) : Type 0 where
+  pub one : r .count ≡ x .count + 1
+  pub holds : instructionsOf r ≡ instructionsOf x ++ (i ∷ [])
+  pub counted : r .operations ≡ operationCount processors (instructionsOf r)
+  pub bounded : r .operations ≤ 9 * r .count

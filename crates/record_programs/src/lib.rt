@@ -1,0 +1,285 @@
+// The section of programs, one for each processor.
+ghost use mathlib.Core.Path.{_≡_};
+ghost use mathlib.Core.Bool.{true};
+ghost use mathlib.Core.List.{List, []};
+ghost use Prim.Native.Nat.{ℕ, _+_, _*_, _<_, _≤_};
+ghost use lib.ListN.{length, take, drop};
+ghost use lib.Dec.{eqb};
+ghost use Rattle.base.specs.Lists.{all};
+ghost use Rattle.model.specs.Execution.{Instruction, operationCount};
+ghost use Rattle.model.specs.Questions.{entryLength, question7, question8, instructionOf, readInstruction, readProgram, readPrograms, readInstructions, many};
+ghost use Rattle.record_decoded.specs.Kinds.{meant};
+ghost use Rattle.record_decoded.specs.Decoded.{instructionsOf, Counted};
+ghost use Rattle.record_decoded.specs.Steps.{Answered, InstructionsWalked, InstructionMore};
+use record_decoded::kind::Kind;
+use record_decoded::kind::is_fence;
+use record_decoded::kind::kind_of;
+use record_decoded::kind::operation_count;
+use record_decoded::types::Asked;
+use record_decoded::types::ENTRY_LENGTH;
+use record_decoded::types::Instructions;
+use record_decoded::types::MOST_INSTRUCTIONS;
+use record_decoded::types::MOST_OPERATIONS;
+use record_decoded::types::Step;
+use record_decoded::types::copy_eight;
+use record_decoded::types::wide;
+
+pub struct InstructionsRead {
+    pub step: Step,
+    pub instructions: Instructions,
+}
+
+pub fn no_instructions() -> Instructions
+    ensures { λ r. ⌜ (r .count ≡ 0) × (r .operations ≡ 0) × (instructionsOf r ≡ []) ⌝ }
+{
+    Instructions {
+        count: 0,
+        operations: 0,
+        processors: [0u8; 40],
+        kinds: [0u8; 40],
+        addresses: [0u8; 40],
+        sizes: [0u8; 40],
+        firsts: [0u16; 40],
+        bytes: [0u8; 320],
+    }
+}
+
+// Question 7.
+fn size_passes(k: Kind, size: u8) -> bool
+    ensures { λ r. ⌜ r ≡ question7 (meant k) size ⌝ }
+{
+    if is_fence(k) {
+        return size == 0;
+    }
+    match size {
+        1 => true,
+        2 => true,
+        4 => true,
+        8 => true,
+        _ => false,
+    }
+}
+
+// Question 8, of a size that passes question 7.
+fn address_passes(lines: usize, k: Kind, size: u8, address: u8) -> bool
+    requires { ⌜ (lines ≤ 8) × (question7 (meant k) size ≡ true) ⌝ }
+    ensures { λ r. ⌜ r ≡ question8 lines (meant k) size address ⌝ }
+{
+    if is_fence(k) {
+        return address == 0;
+    }
+    if address % size != 0 {
+        return false;
+    }
+    let end = address as usize + size as usize;
+    end <= 8 * lines
+}
+
+// Whether n bytes from `from` on are zero.
+fn all_zero(part: &[u8], from: usize, n: usize) -> bool
+    requires { ⌜ from + n ≤ length (now part) ⌝ }
+    ensures { λ r. ⌜ r ≡ all (eqb 0) (take n (drop from (now (part .entry)))) ⌝ }
+{
+    for i in 0..n {
+        if part[from + i] != 0 {
+            return false;
+        }
+    }
+    true
+}
+
+// The questions of the instruction at `at`.
+fn instruction_question(part: &[u8], at: usize, lines: usize) -> Asked
+    requires { ⌜ (at ≤ length (now part)) × (lines ≤ 8) ⌝ }
+    ensures { λ r. ⌜ ((processors p : ℕ) (done : List Instruction) → Answered (readInstruction processors lines p done (drop at (now (part .entry)))) (now (part .entry)) at entryLength r (instructionOf processors p done (take entryLength (drop at (now (part .entry)))))) ⌝ }
+{
+    if part.len() - at < ENTRY_LENGTH {
+        return Asked::Fail(1);
+    }
+    let k = part[at];
+    if 4 < k {
+        return Asked::Fail(6);
+    }
+    let kind = kind_of(k);
+    let size = part[at + 2];
+    if !size_passes(kind, size) {
+        return Asked::Fail(7);
+    }
+    let address = part[at + 1];
+    if !address_passes(lines, kind, size, address) {
+        return Asked::Fail(8);
+    }
+    let s = size as usize;
+    if !all_zero(part, at + 3 + s, 8 - s) {
+        return Asked::Fail(9);
+    }
+    Asked::Pass
+}
+
+// One instruction more, of processor p, from the eleven bytes at `at`.
+fn with_instruction(
+    x: Instructions,
+    part: &[u8],
+    at: usize,
+    processors: usize,
+    p: u8,
+) -> Instructions
+    requires { ⌜ (x .count < 40) × (at + entryLength ≤ length (now part)) × (processors ≤ 8) × (x .operations ≤ 9 * x .count) × (x .operations ≡ operationCount processors (instructionsOf x)) ⌝ }
+    ensures { λ r. ⌜ InstructionMore processors x r (instructionOf processors p (instructionsOf x) (take entryLength (drop at (now (part .entry))))) ⌝ }
+{
+    let i = x.count;
+    let mut processor = x.processors;
+    let mut kinds = x.kinds;
+    let mut addresses = x.addresses;
+    let mut sizes = x.sizes;
+    let mut firsts = x.firsts;
+    let mut bytes = x.bytes;
+    let kind = kind_of(part[at]);
+    let first = x.operations;
+    processor[i] = p;
+    kinds[i] = part[at];
+    addresses[i] = part[at + 1];
+    sizes[i] = part[at + 2];
+    firsts[i] = first as u16;
+    copy_eight(&mut bytes, 8 * i, part, at + 3);
+    let count = i + 1;
+    let operations = first + operation_count(kind, processors);
+    Instructions {
+        count,
+        operations,
+        processors: processor,
+        kinds,
+        addresses,
+        sizes,
+        firsts,
+        bytes,
+    }
+}
+
+// So many instructions of processor p, after their count, added to those of `is`.
+fn program_entries(
+    part: &[u8],
+    n: u8,
+    lines: usize,
+    processors: usize,
+    p: u8,
+    is: Instructions,
+) -> InstructionsRead
+    requires { ⌜ (1 ≤ length (now part)) × (lines ≤ 8) × (processors ≤ 8) × (is .count + n ≤ 40) ⌝ }
+    requires { ⌜ Counted processors is ⌝ }
+    ensures { λ r. ⌜ InstructionsWalked processors (many (readInstruction processors lines p) n (instructionsOf is) (drop 1 (now (part .entry)))) (now (part .entry)) (r .step) (r .instructions) ⌝ }
+{
+    let mut instructions = is;
+    let mut at = 1;
+    for i in 0..n {
+        let asked = instruction_question(part, at, lines);
+        match asked {
+            Asked::Fail(q) => {
+                return InstructionsRead {
+                    step: Step::Refused(q),
+                    instructions,
+                };
+            }
+            Asked::Pass => {
+                instructions = with_instruction(instructions, part, at, processors, p);
+                at = at + ENTRY_LENGTH;
+            }
+        }
+    }
+    InstructionsRead {
+        step: Step::Next(at),
+        instructions,
+    }
+}
+
+// The program of processor p, as the part of the record that starts at its count.
+fn read_program(
+    part: &[u8],
+    lines: usize,
+    processors: usize,
+    p: u8,
+    is: Instructions,
+) -> InstructionsRead
+    requires { ⌜ (lines ≤ 8) × (processors ≤ 8) ⌝ }
+    requires { ⌜ Counted processors is ⌝ }
+    ensures { λ r. ⌜ InstructionsWalked processors (readProgram processors lines p (instructionsOf is) (now (part .entry))) (now (part .entry)) (r .step) (r .instructions) ⌝ }
+{
+    if part.len() < 1 {
+        return InstructionsRead {
+            step: Step::Refused(1),
+            instructions: is,
+        };
+    }
+    let n = part[0];
+    let room = MOST_INSTRUCTIONS - is.count;
+    if room < wide(n) {
+        return InstructionsRead {
+            step: Step::Refused(5),
+            instructions: is,
+        };
+    }
+    program_entries(part, n, lines, processors, p, is)
+}
+
+// The programs of all processors, one after the other.
+fn read_programs(part: &[u8], lines: usize, processors: usize) -> InstructionsRead
+    requires { ⌜ (lines ≤ 8) × (processors ≤ 8) ⌝ }
+    ensures { λ r. ⌜ InstructionsWalked processors (readPrograms processors lines 0 processors [] (now (part .entry))) (now (part .entry)) (r .step) (r .instructions) ⌝ }
+{
+    let mut instructions = no_instructions();
+    let mut at = 0;
+    for p in 0..processors {
+        let read = read_program(&part[at..], lines, processors, p as u8, instructions);
+        let step = read.step;
+        instructions = read.instructions;
+        match step {
+            Step::Refused(q) => {
+                return InstructionsRead {
+                    step: Step::Refused(q),
+                    instructions,
+                };
+            }
+            Step::Next(k) => {
+                at = at + k;
+            }
+        }
+    }
+    InstructionsRead {
+        step: Step::Next(at),
+        instructions,
+    }
+}
+
+// The programs, and the questions after the last.
+pub fn read_instructions(part: &[u8], lines: usize, processors: usize) -> InstructionsRead
+    requires { ⌜ (lines ≤ 8) × (processors ≤ 8) ⌝ }
+    ensures { λ r. ⌜ InstructionsWalked processors (readInstructions processors lines (now (part .entry))) (now (part .entry)) (r .step) (r .instructions) ⌝ }
+{
+    let read = read_programs(part, lines, processors);
+    let step = read.step;
+    let instructions = read.instructions;
+    match step {
+        Step::Refused(q) => InstructionsRead {
+            step: Step::Refused(q),
+            instructions,
+        },
+        Step::Next(at) => {
+            if instructions.count < 1 {
+                return InstructionsRead {
+                    step: Step::Refused(10),
+                    instructions,
+                };
+            }
+            if MOST_OPERATIONS < instructions.operations {
+                return InstructionsRead {
+                    step: Step::Refused(11),
+                    instructions,
+                };
+            }
+            InstructionsRead {
+                step: Step::Next(at),
+                instructions,
+            }
+        }
+    }
+}

@@ -1,0 +1,30 @@
+-- Paths of links by what they are, with no algorithm; what it is for the marks of a chain table and the cells of a square to be the paths.
+use Prim.Native.Nat.{ℕ, _+_, _*_, _<_}
+use mathlib.Core.Path.{_≡_}
+use mathlib.Core.List.{List, List·Memᴰ}
+use mathlib.Core.Logic.{_↔_}
+use lib.ListN.{getD}
+use Rattle.model.specs.Rules.{Link}
+use Rattle.model.specs.Chains.{chainMark}
+use Rattle.relation_chain_table.specs.Squares.{cell}
+
+-- a path from a to b: one link, or a link and then a path
+pub data Path (links : List Link) : ℕ → ℕ → Type 0 where
+  one : {a b : ℕ} → List·Memᴰ (a, b) links → Path links a b
+  more : {a b c : ℕ} → List·Memᴰ (a, b) links → Path links b c → Path links a c
+
+-- the links are between numbers below n
+abbrev pub Within : ℕ → List Link → Type 0
+Within n links = (a b : ℕ) → List·Memᴰ (a, b) links → (a < n) × (b < n)
+
+-- mark (a, b) is 1 exactly where a path leads from a to b
+abbrev pub MarksArePaths : ℕ → List Link → Type 0
+MarksArePaths n links = (a b : ℕ) → a < n → b < n → (chainMark n links a b ≡ 1) ↔ Path links a b
+
+-- the cell of row a and column b is 1 exactly where a path leads from a to b
+abbrev pub CellsArePaths : ℕ → List Link → List (List ℕ) → Type 0
+CellsArePaths n links m = (a b : ℕ) → a < n → b < n → (cell m a b ≡ 1) ↔ Path links a b
+
+-- the byte at a × n + b of a table is 1 exactly where a path leads from a to b
+abbrev pub BytesArePaths : ℕ → List Link → List ℕ → Type 0
+BytesArePaths n links table = (a b : ℕ) → a < n → b < n → (getD table (a * n + b) 0 ≡ 1) ↔ Path links a b

@@ -1,0 +1,68 @@
+-- Each operation of the table is one of the execution, of an instruction of the record; what an accepted execution gives the functions that make tables.
+use Prim.Native.Nat.{ℕ, _≤_, _<_}
+use native.Mathlib.Omega.{arith}
+use mathlib.Core.Path.{_≡_, ap, subst}
+use mathlib.Core.List.{List, List·Memᴰ, Memᴰ·map, Memᴰ·of-map}
+use lib.ListN.{getD, length-map}
+use Rattle.base.specs.Lists.{for, below}
+use Rattle.base.proofs.Lists.{length-count, in-below, of-below}
+use Rattle.model.specs.Execution as model
+use Rattle.model.specs.Execution.{operationCount, operations, operationsOf, allOperations}
+use Rattle.model.proofs.Accepted.{Laid, Accepted}
+use Rattle.record_decoded.specs.declared.types.Execution.{Execution}
+use Rattle.record_decoded.specs.Decoded.{pairAt, pairsOf, instructionAt, instructionsOf, executionOf}
+use Rattle.record_decoded.proofs.Arrays.{lines-length, instructions-length}
+use Rattle.relation_links.specs.declared.operations.Operations.{Operations}
+use Rattle.relation_marks.specs.Marks.{marksBetween, markAt}
+use Rattle.relation_links.specs.Operations.{operationAt, tableOf, Tabled}
+use Rattle.relation_links.specs.Compiled.{Compiled}
+use Rattle.relation_links.proofs.LinkLaws.{operation-of}
+
+module _ {x : Execution} {t : Operations} {marks : List (List ℕ)} (h : Compiled x t marks) where
+  -- operation o of the table is one of the execution
+  pub operation-there : (o : ℕ) → o < t .count → List·Memᴰ (operationAt (x .instructions) t o) (allOperations (executionOf x))
+  unfolding tableOf
+  operation-there o l = subst (List·Memᴰ (operationAt (x .instructions) t o)) (h .tabled .holds) (Memᴰ·map (operationAt (x .instructions) t) (in-below (t .count) o l))
+
+  -- its instruction is one of the record
+  pub owner-there : (o : ℕ) → o < t .count → getD (t .owners) o 0 < x .instructions .count
+  unfolding operationAt instructionsOf instructionAt executionOf
+  owner-there o l =
+      let (k, m, q) = Memᴰ·of-map (instructionAt (x .instructions)) (below (x .instructions .count))
+      (operation-of (executionOf x) (operationAt (x .instructions) t o) (operation-there o l)) in
+      subst (λ (i : ℕ). i < x .instructions .count) (ap (λ (i : model.Instruction). i .number) q) (of-below (x .instructions .count) m)
+
+-- what the arrays of an accepted execution hold
+module _ (x : Execution) (a : Accepted (executionOf x)) where
+  pub few-processors : x .processors ≤ 8
+  unfolding executionOf
+  few-processors = a .processors-few
+
+  pub few-lines : x .lines .count ≤ 8
+  unfolding executionOf
+  few-lines = omega (arith, a .lines-few, lines-length (x .lines))
+
+  pub few-instructions : x .instructions .count ≤ 40
+  unfolding executionOf
+  few-instructions = omega (arith, a .instructions-few, instructions-length (x .instructions))
+
+  pub few-pairs : x .pairs .count ≤ 40
+  unfolding executionOf pairsOf below
+  few-pairs = omega (arith, a .pairs-few, length-map (below (x .pairs .count)) (pairAt (x .pairs)), length-count 0 (x .pairs .count))
+
+  pub few-operations : operationCount (x .processors) (instructionsOf (x .instructions)) ≤ 128
+  unfolding executionOf operations
+  few-operations = a .operations-few
+
+  pub laid-out : Laid (x .processors) 0 0 (instructionsOf (x .instructions))
+  unfolding executionOf
+  laid-out = a .laid
+
+-- what the functions that make tables promise, together
+pub compiled : (x : Execution) {t : Operations} {marks : List (List ℕ)}
+    → Tabled (x .instructions) t (for (instructionsOf (x .instructions)) (operationsOf (x .processors))) (operationCount (x .processors) (instructionsOf (x .instructions)))
+    → ((i j : ℕ) → i < x .instructions .count → j < x .instructions .count
+    → markAt marks i j ≡ marksBetween (executionOf x) (instructionAt (x .instructions) i) (instructionAt (x .instructions) j))
+    → Compiled x t marks
+unfolding executionOf operations allOperations
+compiled x h k = record { tabled = h; marked = k }

@@ -1,0 +1,110 @@
+-- Roles by their numbers, and what each rule asks of them.
+use Prim.Native.Nat.{ℕ, zero, suc, _+_, _-_, _<_, _≤_}
+use native.Mathlib.Omega.{arith}
+use native.Mathlib.Decide.{decLt}
+use mathlib.Core.Path.{_≡_, refl, sym, ap, _∙_}
+use mathlib.Core.Bool.{Bool, true, false, _&&_}
+use mathlib.Core.List.{List, [], _∷_}
+use lib.ListN.{getD, List·getD-eq-default}
+use lib.Dec.{eqb, ltb}
+use Rattle.base.specs.Lists.{all}
+use Rattle.base.proofs.Bools.{agree, and-parts}
+use Rattle.base.proofs.Lists.{getD-there}
+use borrow.Author.Tests.{eq-eqb, eqb-true, ne-eqb, ltb-true}
+use Rattle.model.specs.Execution.{Role}
+use Rattle.model.specs.Rules.{hasRoleR, hasRoleLV, hasRoleRV, sameVisibility}
+use Rattle.record_decoded.specs.Kinds.{roleNumbered}
+use Rattle.relation_links.specs.Links.{ruleMarkTable, ruleMark, rolesLink}
+
+-- R is 0, and LV is 1
+pub r-numbered : (k : ℕ) → eqb k 0 ≡ hasRoleR (roleNumbered k)
+r-numbered zero = refl
+r-numbered (suc zero) = refl
+r-numbered (suc (suc zero)) = refl
+r-numbered (suc (suc (suc q))) = ne-eqb (suc (suc (suc q))) 0 (λ e. omega arith)
+
+pub lv-numbered : (k : ℕ) → eqb k 1 ≡ hasRoleLV (roleNumbered k)
+lv-numbered zero = refl
+lv-numbered (suc zero) = refl
+lv-numbered (suc (suc zero)) = refl
+lv-numbered (suc (suc (suc q))) = ne-eqb (suc (suc (suc q))) 1 (λ e. omega arith)
+
+-- below 3 no number is an RV; from 3 on it is the RV to the rest
+pub not-rv : (k : ℕ) (p : ℕ → Bool) → k < 3 → false ≡ hasRoleRV (roleNumbered k) p
+not-rv zero p h = refl
+not-rv (suc zero) p h = refl
+not-rv (suc (suc zero)) p h = refl
+not-rv (suc (suc (suc q))) p h = absurd (omega arith)
+
+pub rv-numbered : (k : ℕ) (p : ℕ → Bool) → 3 ≤ k → p (k - 3) ≡ hasRoleRV (roleNumbered k) p
+rv-numbered zero p h = absurd (omega arith)
+rv-numbered (suc zero) p h = absurd (omega arith)
+rv-numbered (suc (suc zero)) p h = absurd (omega arith)
+rv-numbered (suc (suc (suc q))) p h = ap p (omega arith)
+
+-- one visibility, below 3 and from 3 on
+pub same-local : (a b : ℕ) → a < 3 → (hasRoleLV (roleNumbered a) && hasRoleLV (roleNumbered b)) ≡ sameVisibility (roleNumbered a) (roleNumbered b)
+same-local zero b h = refl
+same-local (suc zero) b h = refl
+same-local (suc (suc zero)) b h = refl
+same-local (suc (suc (suc q))) b h = absurd (omega arith)
+
+pub same-remote : (a b : ℕ) → 3 ≤ a → eqb a b ≡ sameVisibility (roleNumbered a) (roleNumbered b)
+same-remote zero b h = absurd (omega arith)
+same-remote (suc zero) b h = absurd (omega arith)
+same-remote (suc (suc zero)) b h = absurd (omega arith)
+same-remote (suc (suc (suc q))) zero h = ne-eqb (suc (suc (suc q))) 0 (λ e. omega arith)
+same-remote (suc (suc (suc q))) (suc zero) h = ne-eqb (suc (suc (suc q))) 1 (λ e. omega arith)
+same-remote (suc (suc (suc q))) (suc (suc zero)) h = ne-eqb (suc (suc (suc q))) 2 (λ e. omega arith)
+same-remote (suc (suc (suc q))) (suc (suc (suc r))) h =
+    agree (eqb (suc (suc (suc q))) (suc (suc (suc r)))) (eqb q r)
+    (λ e. eq-eqb q r (omega (arith, eqb-true (suc (suc (suc q))) (suc (suc (suc r))) e)))
+    (λ e. eq-eqb (suc (suc (suc q))) (suc (suc (suc r))) (omega (arith, eqb-true q r e)))
+
+-- an entry of a rule's roles, at the rule
+pub roles-at : (k : ℕ) {x : Bool} (rule p : ℕ) (a b : Role) → rule ≡ k → x ≡ rolesLink k p a b → x ≡ rolesLink rule p a b
+roles-at k rule p a b e h = h ∙ ap (λ (r : ℕ). rolesLink r p a b) (sym e)
+
+-- past the table no rule asks for roles
+pub roles-past : (rule p : ℕ) (a b : Role) → 14 ≤ rule → false ≡ rolesLink rule p a b
+unfolding rolesLink
+roles-past rule p a b h = rw List·getD-eq-default
+
+-- past four numbers, one after the other
+pub past-four : (n k : ℕ) → k < n → (n ≡ k + 1 → ⊥) → (n ≡ k + 2 → ⊥) → (n ≡ k + 3 → ⊥) → (n ≡ k + 4 → ⊥) → k + 4 < n
+past-four n k h a b c d = omega arith
+
+-- the other rules ask for no roles: there is no link
+pub roles-none : (rule p : ℕ) (a b : Role) → (0 < rule → 8 < rule) → (rule ≡ 13 → ⊥) → false ≡ rolesLink rule p a b
+unfolding rolesLink
+roles-none rule p a b h n = go (decLt rule 1) (decLt rule 10) (decLt rule 11) (decLt rule 12) (decLt rule 13)
+  where
+    go : Dec (rule < 1) → Dec (rule < 10) → Dec (rule < 11) → Dec (rule < 12) → Dec (rule < 13) → false ≡ rolesLink rule p a b
+    go (yes l) d9 d10 d11 d12 = roles-at 0 rule p a b (omega arith) refl
+    go (no g) (yes l) d10 d11 d12 = roles-at 9 rule p a b (let k : 8 < rule = h (omega arith) in omega arith) refl
+    go (no g) (no k) (yes l) d11 d12 = roles-at 10 rule p a b (omega arith) refl
+    go (no g) (no k) (no k2) (yes l) d12 = roles-at 11 rule p a b (omega arith) refl
+    go (no g) (no k) (no k2) (no k3) (yes l) = roles-at 12 rule p a b (omega arith) refl
+    go (no g) (no k) (no k2) (no k3) (no k4) = roles-past rule p a b (omega (arith, n))
+
+-- the marks of the rules: past the table 1, and none is 0
+pub mark-past : (rule : ℕ) → 14 ≤ rule → 1 ≡ ruleMark rule
+unfolding ruleMark
+mark-past rule h = sym (List·getD-eq-default ruleMarkTable 1 {n = rule} (omega arith))
+
+positive : (l : List ℕ) (i : ℕ) → all (ltb 0) l ≡ true → 0 < getD l i 1
+unfolding all
+positive [] i h = omega arith
+positive (x ∷ l) zero h = ltb-true 0 x (and-parts (ltb 0 x) (all (ltb 0) l) h .0)
+positive (x ∷ l) (suc i) h = positive l i (and-parts (ltb 0 x) (all (ltb 0) l) h .1)
+
+pub mark-positive : (rule : ℕ) → 0 < ruleMark rule
+unfolding ruleMark all
+mark-positive rule = positive ruleMarkTable rule refl
+
+-- the mark that stands in the table
+pub mark-there : (rule : ℕ) → rule < 14 → (getD ruleMarkTable rule 0 ≡ ruleMark rule) × (0 < getD ruleMarkTable rule 0)
+unfolding ruleMark
+mark-there rule h =
+    let e : getD ruleMarkTable rule 0 ≡ ruleMark rule = getD-there ruleMarkTable rule 0 1 h in
+    (e, omega (arith, mark-positive rule))

@@ -1,0 +1,121 @@
+// Marks of two instructions, packed into one number; the table of the program-order rules.
+ghost use mathlib.Core.Path.{_≡_};
+ghost use mathlib.Core.Bool.{cond, _&&_, _||_};
+ghost use Prim.Native.Nat.{_+_, _*_, _<_, _≤_, min, max};
+ghost use Rattle.record_decoded.specs.Kinds.{meant};
+ghost use Rattle.model.specs.ProgramOrder.{kindNumber};
+ghost use Rattle.relation_marks.specs.Marks.{programMarks, sharesByte, hasMark};
+use record_decoded::kind::Kind;
+use record_decoded::types::wide;
+
+// The marks: one instruction; rules 2, 3 and 4 by the kinds; a shared byte; a dependence pair; UC memory of both; conflicting stores; a UC store and an
+// overlapping load of its processor; one st.rel to WB.
+pub const SAME: u16 = 1;
+
+pub const ACQUIRE: u16 = 2;
+
+pub const RELEASE: u16 = 4;
+
+pub const FENCE: u16 = 8;
+
+pub const OVERLAP: u16 = 16;
+
+pub const PAIR: u16 = 32;
+
+pub const UNCACHEABLE: u16 = 64;
+
+pub const CONFLICT: u16 = 128;
+
+pub const BYPASS: u16 = 256;
+
+pub const ATOMIC: u16 = 512;
+
+// The program-order rules, earlier kind by row, later kind by column.
+const PROGRAM_ORDER: [[u16; 5]; 5] = [
+    [0, 0, 0, RELEASE, FENCE],
+    [
+        ACQUIRE,
+        ACQUIRE,
+        ACQUIRE,
+        ACQUIRE + RELEASE,
+        ACQUIRE + FENCE,
+    ],
+    [0, 0, 0, RELEASE, FENCE],
+    [0, 0, 0, RELEASE, FENCE],
+    [FENCE, FENCE, FENCE, FENCE, FENCE],
+];
+
+// A kind's row and column.
+pub fn kind_number(k: Kind) -> usize
+    ensures { λ r. ⌜ (r ≡ kindNumber (meant k)) × (r < 5) ⌝ }
+{
+    match k {
+        Kind::Ld => 0,
+        Kind::LdAcq => 1,
+        Kind::St => 2,
+        Kind::StRel => 3,
+        Kind::Mf => 4,
+    }
+}
+
+// The marks of rules 2, 3 and 4 for an earlier and a later kind.
+pub fn program_marks(earlier: Kind, later: Kind) -> u16
+    ensures { λ r. ⌜ r ≡ programMarks (meant earlier) (meant later) ⌝ }
+{
+    let row = kind_number(earlier);
+    let column = kind_number(later);
+    PROGRAM_ORDER[row][column]
+}
+
+fn larger(a: usize, b: usize) -> usize
+    ensures { λ r. ⌜ r ≡ max a b ⌝ }
+{
+    if a < b { b } else { a }
+}
+
+fn smaller(a: usize, b: usize) -> usize
+    ensures { λ r. ⌜ r ≡ min a b ⌝ }
+{
+    if a < b { a } else { b }
+}
+
+// Whether two accesses, each by its address and size, share a byte.
+pub fn shares_byte(address: u8, size: u8, other: u8, extent: u8) -> bool
+    ensures { λ r. ⌜ r ≡ sharesByte address size other extent ⌝ }
+{
+    let a = wide(address);
+    let s = wide(size);
+    let o = wide(other);
+    let e = wide(extent);
+    let end = a + s;
+    let other_end = o + e;
+    larger(a, o) < smaller(end, other_end)
+}
+
+pub fn both(a: bool, b: bool) -> bool
+    ensures { λ r. ⌜ r ≡ (a && b) ⌝ }
+{
+    if a { b } else { false }
+}
+
+pub fn either(a: bool, b: bool) -> bool
+    ensures { λ r. ⌜ r ≡ (a || b) ⌝ }
+{
+    if a { true } else { b }
+}
+
+// One mark more, below the others.
+pub fn with_mark(marks: u16, holds: bool) -> u16
+    requires { ⌜ marks < 32768 ⌝ }
+    ensures { λ r. ⌜ (r ≡ cond holds 1 0 + 2 * marks) × (r ≤ 1 + 2 * marks) ⌝ }
+{
+    if holds { 1 + 2 * marks } else { 2 * marks }
+}
+
+// Whether a mark is among those packed.
+pub fn has_mark(marks: u16, mark: u16) -> bool
+    requires { ⌜ 0 < mark ⌝ }
+    ensures { λ r. ⌜ r ≡ hasMark marks mark ⌝ }
+{
+    marks / mark % 2 == 1
+}

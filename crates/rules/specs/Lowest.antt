@@ -1,9 +1,0 @@
--- The lowest broken rule of the code as the model's.
-use Prim.Native.Nat.{ℕ}
-use mathlib.Core.Option.{Option, none, some}
-use Rattle.rules.specs.declared.lowest.Lowest.{Lowest}
-use Rattle.rules.specs.declared.lowest.Lowest.the-variants.{Kept, Broken}
-
-abbrev pub lowestMeant : Lowest → Option ℕ
-lowestMeant Kept = none
-lowestMeant (Broken k) = some k

@@ -1,0 +1,221 @@
+-- What the parts of the test come to: bits of words, and the members of a set that do not stand.
+use Prim.Native.Nat.{ℕ, _+_, _%_, _^_, _≤_, _<_}
+use native.Mathlib.Omega.{arith}
+use mathlib.Core.Path.{_≡_, refl, sym, ap, ap₂, _∙_}
+use mathlib.Core.Bool.{Bool, true, false, not, cond, _&&_, _||_, and-assoc}
+use mathlib.Core.List.{List}
+use lib.ListN.{getD, set}
+use lib.Bits.{bitAnd, bitOr, bitXor, and-lt, or-lt, xor-lt}
+use lib.Dec.{eqb, ltb}
+use borrow.Author.Tests.{eq-eqb, ne-eqb, eqb-true, le-ltb, lt-ltb, not-true, not-false}
+use Rattle.base.specs.Below.{allBelow, anyBelow}
+use Rattle.base.specs.Bits.{bit}
+use Rattle.base.proofs.Bools.{agree}
+use Rattle.base.proofs.Tests.{all-at, all-below, all-same, any-below-same}
+use Rattle.relation_places.specs.Places.{beforeBy}
+use Rattle.search_sets.specs.Set.{holds}
+use Rattle.search_sets.proofs.Bit.{has-and, has-or}
+use Rattle.search_sets.proofs.Laws.{has-minus, has-xor, zero-has, bits-zero}
+use Rattle.search_sets.proofs.Members.{any-skips, holds-none}
+use Rattle.search_admit.specs.Rows.{field, rivals, bypasses, writtenBits, readBits, readData, visibleWord, ownWord, ownOf, localOf, merged, wordsWith}
+use Rattle.search_admit.specs.Fits.{same, waitsFor, refused, pending, localBit, sees}
+
+-- the ways out of the test of one rival
+module _ (rows places : List ℕ) (x m : ℕ) {own-m own-x : ℕ} (is-m : own-m ≡ ownOf rows m) (is-x : own-x ≡ ownOf rows x) {r : Bool}
+    (tells : r ≡ beforeBy places own-m own-x) where
+  abbrev first : Bool
+  first = beforeBy places (ownOf rows m) (ownOf rows x)
+
+  abbrev locals : Bool
+  locals = beforeBy places (localOf rows m) (localOf rows x)
+
+  first-is : r ≡ first
+  first-is = tells ∙ ap₂ (beforeBy places) is-m is-x
+
+  pub waits-first : r ≡ true → true ≡ waitsFor rows places x m
+  unfolding waitsFor
+  waits-first h = ap (λ (b : Bool). b || eqb (ownOf rows m) m && (eqb (ownOf rows x) x && locals)) (sym h ∙ first-is)
+
+  pub waits-not : r ≡ false → (own-m ≡ m → ⊥) → false ≡ waitsFor rows places x m
+  unfolding waitsFor
+  waits-not h n =
+      ap₂ (λ (b d : Bool). b || d && (eqb (ownOf rows x) x && locals)) (sym h ∙ first-is) (sym (ne-eqb (ownOf rows m) m (λ e. n (is-m ∙ e))))
+
+  pub waits-not-own : r ≡ false → (own-x ≡ x → ⊥) → false ≡ waitsFor rows places x m
+  unfolding waitsFor
+  waits-not-own h n = go first (eqb (ownOf rows m) m) (eqb (ownOf rows x) x) (sym first-is ∙ h) (ne-eqb (ownOf rows x) x (λ e. n (is-x ∙ e)))
+    where
+      go : (a b d : Bool) → a ≡ false → d ≡ false → false ≡ (a || b && (d && locals))
+      go true b d p q = sym p
+      go false true d p q = ap (λ (u : Bool). u && locals) (sym q)
+      go false false d p q = refl
+
+  pub waits-last : r ≡ false → own-m ≡ m → own-x ≡ x → {local-m local-x : ℕ} → local-m ≡ localOf rows m → local-x ≡ localOf rows x
+      → {s : Bool} → s ≡ beforeBy places local-m local-x → s ≡ waitsFor rows places x m
+  unfolding waitsFor
+  waits-last h o n lm lx {s} f =
+      go first (eqb (ownOf rows m) m) (eqb (ownOf rows x) x) (sym first-is ∙ h) (eq-eqb (ownOf rows m) m (sym is-m ∙ o)) (eq-eqb (ownOf rows x) x (sym is-x ∙ n))
+    where
+      go : (a b d : Bool) → a ≡ false → b ≡ true → d ≡ true → s ≡ (a || b && (d && locals))
+      go a b d p q t = rw (p, q, t) (f ∙ ap₂ (beforeBy places) lm lx)
+
+-- what is left of a set without those that stand
+pub missing-is : (rows : List ℕ) (f x lo hi slo shi mlo mhi : ℕ) → slo ≡ field rows f x → shi ≡ field rows (f + 1) x
+    → ((k : ℕ) → holds mlo mhi k ≡ (holds slo shi k && not (holds lo hi k)))
+    → (k : ℕ) → holds mlo mhi k ≡ (holds (field rows f x) (field rows (f + 1) x) k && not (holds lo hi k))
+missing-is rows f x lo hi slo shi mlo mhi a b m k = m k ∙ ap₂ (λ (u v : ℕ). holds u v k && not (holds lo hi k)) a b
+
+-- nothing is left where all stand
+module _ (rows : List ℕ) (f x lo hi : ℕ) {slo shi : ℕ} {r : Bool} (low : slo ≡ field rows f x) (high : shi ≡ field rows (f + 1) x)
+    (stand : r ≡ allBelow 128 (λ a. not (holds slo shi a) || holds lo hi a)) (all : r ≡ true) where
+  none-missing : (k : ℕ) → k < 128 → (holds (field rows f x) (field rows (f + 1) x) k && not (holds lo hi k)) ≡ false
+  none-missing k l =
+      ap₂ (λ (u v : ℕ). holds u v k && not (holds lo hi k)) (sym low) (sym high)
+      ∙ go (holds slo shi k) (holds lo hi k) (all-at (λ a. not (holds slo shi a) || holds lo hi a) 128 (sym stand ∙ all) k l)
+    where
+      go : (a b : Bool) → (not a || b) ≡ true → (a && not b) ≡ false
+      go true b h = ap not h
+      go false b h = refl
+
+  -- so no test of those that are missing passes
+  pub any-missing : (test : ℕ → Bool) → anyBelow 128 (λ m. holds (field rows f x) (field rows (f + 1) x) m && not (holds lo hi m) && test m) ≡ false
+  unfolding anyBelow
+  any-missing test = any-skips _ 0 128 (omega arith) (λ m a l. ap (λ (b : Bool). b && test m) (none-missing m l))
+
+pub refused-by : (rows places : List ℕ) (lo hi x mlo mhi : ℕ) → ((k : ℕ) → holds mlo mhi k ≡ (rivals rows x k && not (holds lo hi k)))
+    → anyBelow 128 (λ m. holds mlo mhi m && waitsFor rows places x m) ≡ refused rows places lo hi x
+unfolding refused
+refused-by rows places lo hi x mlo mhi e =
+    any-below-same _ _ 128 (λ m l. ap (λ (b : Bool). b && waitsFor rows places x m) (e m))
+
+-- the bits of an operation whose LV stands
+abbrev pub standsLocal : List ℕ → ℕ → ℕ → ℕ → Bool
+standsLocal rows lo hi m = ltb (localOf rows m) 128 && holds lo hi (localOf rows m)
+
+-- a bit is local where a store that does not stand wrote it and its LV stands
+pub local-is : (rows : List ℕ) (lo hi x i : ℕ)
+    → anyBelow 128 (λ m. bypasses rows x m && not (holds lo hi m) && (standsLocal rows lo hi m && bit (writtenBits rows m) i)) ≡ localBit rows lo hi x i
+unfolding localBit pending
+local-is rows lo hi x i =
+    any-below-same _ _ 128 (λ m l. sym (and-assoc (bypasses rows x m && not (holds lo hi m)) (standsLocal rows lo hi m) (bit (writtenBits rows m) i)))
+
+pub local-by : (rows : List ℕ) (lo hi x mlo mhi i : ℕ) → ((k : ℕ) → holds mlo mhi k ≡ (bypasses rows x k && not (holds lo hi k)))
+    → anyBelow 128 (λ m. holds mlo mhi m && (standsLocal rows lo hi m && bit (writtenBits rows m) i)) ≡ localBit rows lo hi x i
+local-by rows lo hi x mlo mhi i e =
+    any-below-same _ _ 128 (λ m l. ap (λ (b : Bool). b && (standsLocal rows lo hi m && bit (writtenBits rows m) i)) (e m)) ∙ local-is rows lo hi x i
+
+-- before any operation stands no bit is local
+pub local-none : (rows : List ℕ) (x i : ℕ) → bit 0 i ≡ localBit rows 0 0 x i
+unfolding localBit pending anyBelow
+local-none rows x i =
+    zero-has i ∙ sym (any-skips _ 0 128 (omega arith) (λ m a l.
+    go (bypasses rows x m && not (holds 0 0 m)) (ltb (localOf rows m) 128) (holds 0 0 (localOf rows m)) (bit (writtenBits rows m) i) (holds-none (localOf rows m))))
+  where
+    go : (a b d w : Bool) → d ≡ false → (a && (b && d) && w) ≡ false
+    go true true d w e = ap (λ (u : Bool). u && w) e
+    go true false d w e = refl
+    go false b d w e = refl
+
+-- a word is 0 when none of its bits is set
+word-zero : (w : ℕ) → w < 2 ^ 64 → eqb w 0 ≡ allBelow 64 (λ i. not (bit w i))
+word-zero w h =
+    agree (eqb w 0) (allBelow 64 (λ i. not (bit w i)))
+    (λ e. all-below (λ i. not (bit w i)) 64 (λ i l. ap not (ap (λ (v : ℕ). bit v i) (eqb-true w 0 e) ∙ zero-has i)))
+    (λ a. eq-eqb w 0 (bits-zero w h (λ k l. not-true (bit w k) (all-at (λ i. not (bit w i)) 64 a k l))))
+
+-- the comparison of what is seen with what is recorded, in the bits that are read
+module _ (own visible local recorded bits : ℕ) where
+  abbrev seen : ℕ
+  seen = bitOr (bitAnd own local) (bitXor visible (bitAnd visible local))
+
+  abbrev differs : ℕ
+  differs = bitAnd (bitXor seen recorded) bits
+
+  abbrev pub agreeing : ℕ → Bool
+  agreeing i = not (bit bits i) || same (cond (bit local i) (bit own i) (bit visible i)) (bit recorded i)
+
+  seen-bit : (i : ℕ) → bit seen i ≡ cond (bit local i) (bit own i) (bit visible i)
+  seen-bit i =
+      has-or (bitAnd own local) (bitXor visible (bitAnd visible local)) i
+      ∙ ap₂ _||_ (has-and own local i) (has-minus visible local i) ∙ go (bit own i) (bit visible i) (bit local i)
+    where
+      go : (o v b : Bool) → ((o && b) || (v && not b)) ≡ cond b o v
+      go true v true = refl
+      go true true false = refl
+      go true false false = refl
+      go false true true = refl
+      go false true false = refl
+      go false false true = refl
+      go false false false = refl
+
+  differs-bit : (i : ℕ) → not (bit differs i) ≡ agreeing i
+  unfolding same
+  differs-bit i =
+      ap not (has-and (bitXor seen recorded) bits i ∙ ap (λ (b : Bool). b && bit bits i) (has-xor seen recorded i))
+      ∙ ap (λ (s : Bool). not (cond s (not (bit recorded i)) (bit recorded i) && bit bits i)) (seen-bit i)
+      ∙ go (cond (bit local i) (bit own i) (bit visible i)) (bit recorded i) (bit bits i)
+    where
+      go : (s d b : Bool) → not (cond s (not d) d && b) ≡ (not b || same s d)
+      go true true true = refl
+      go true true false = refl
+      go true false true = refl
+      go true false false = refl
+      go false true true = refl
+      go false true false = refl
+      go false false true = refl
+      go false false false = refl
+
+  pub agrees-is : own < 2 ^ 64 → visible < 2 ^ 64 → local < 2 ^ 64 → recorded < 2 ^ 64 → bits < 2 ^ 64 → eqb differs 0 ≡ allBelow 64 agreeing
+  agrees-is o v l r b =
+      word-zero differs (and-lt 64 (bitXor seen recorded) bits
+      (xor-lt 64 seen recorded (or-lt 64 (bitAnd own local) (bitXor visible (bitAnd visible local)) (and-lt 64 own local o l) (xor-lt 64 visible (bitAnd visible local) v (and-lt 64 visible local v l))) r) b)
+      ∙ all-same _ _ 64 (λ i l. differs-bit i)
+
+-- what the R x sees, from its row
+pub sees-is : (rows words : List ℕ) (lo hi x : ℕ) (local : ℕ) {own visible recorded bits : ℕ} {r : Bool} → r ≡ allBelow 64 (agreeing own visible local recorded bits)
+    → own ≡ getD words (ownWord rows x) 0 → visible ≡ getD words (visibleWord rows x) 0 → ((i : ℕ) → bit local i ≡ localBit rows lo hi x i)
+    → recorded ≡ readData rows x → bits ≡ readBits rows x → r ≡ sees rows lo hi words x
+unfolding sees
+sees-is rows words lo hi x local {own} {visible} {recorded} {bits} e o v l d b =
+    e ∙ all-same _ _ 64 (λ i k. ap (λ (u : Bool). not (bit bits i) || same (cond u (bit own i) (bit visible i)) (bit recorded i)) (l i)
+    ∙ by i (localBit rows lo hi x i))
+  where
+    by : (i : ℕ) (u : Bool) → (not (bit bits i) || same (cond u (bit own i) (bit visible i)) (bit recorded i))
+        ≡ (not (bit (readBits rows x) i) || same (cond u (bit (getD words (ownWord rows x) 0) i) (bit (getD words (visibleWord rows x) 0) i)) (bit (readData rows x) i))
+    by i u = rw (o, v, d, b) refl
+
+-- nothing is read
+pub sees-nothing : (rows words : List ℕ) (lo hi x : ℕ) → readBits rows x ≡ 0 → true ≡ sees rows lo hi words x
+unfolding sees
+sees-nothing rows words lo hi x z =
+    sym (all-below _ 64 (λ i l. ap (λ (b : ℕ). not (bit b i) || same (cond (localBit rows lo hi x i) (bit (getD words (ownWord rows x) 0) i) (bit (getD words (visibleWord rows x) 0) i)) (bit (readData rows x) i)) z
+    ∙ ap (λ (b : Bool). not b || same (cond (localBit rows lo hi x i) (bit (getD words (ownWord rows x) 0) i) (bit (getD words (visibleWord rows x) 0) i)) (bit (readData rows x) i)) (zero-has i)))
+
+-- a word written over
+pub written : (rows words : List ℕ) (x : ℕ) {at bits data' : ℕ} → at ≡ field rows 10 x → bits ≡ writtenBits rows x → data' ≡ field rows 9 x
+    → set words (at % 128) (merged (getD words (at % 128) 0) bits data') ≡ wordsWith rows words x
+written rows words x a b d = cc (a, b, d)
+
+-- the ways out of the bits of one store
+module _ (rows : List ℕ) (lo hi m i : ℕ) {local : ℕ} (is : local ≡ localOf rows m) where
+  abbrev wrote : Bool
+  wrote = bit (writtenBits rows m) i
+
+  pub bits-none : 128 ≤ local → bit 0 i ≡ (standsLocal rows lo hi m && wrote)
+  bits-none h = zero-has i ∙ ap (λ (b : Bool). b && holds lo hi (localOf rows m) && wrote) (sym (le-ltb (localOf rows m) 128 (omega (arith, is))))
+
+  pub bits-absent : {r : Bool} → r ≡ holds lo hi local → not r ≡ true → bit 0 i ≡ (standsLocal rows lo hi m && wrote)
+  bits-absent {r} e h = zero-has i ∙ go (ltb (localOf rows m) 128) (holds lo hi (localOf rows m)) (ap (holds lo hi) (sym is) ∙ sym e ∙ not-true r h)
+    where
+      go : (a b : Bool) → b ≡ false → false ≡ (a && b && wrote)
+      go true b q = ap (λ (u : Bool). u && wrote) (sym q)
+      go false b q = refl
+
+  pub bits-there : {r : Bool} {w : ℕ} → local < 128 → r ≡ holds lo hi local → not r ≡ false → w ≡ writtenBits rows m → bit w i ≡ (standsLocal rows lo hi m && wrote)
+  bits-there {r} {w} l e h q =
+      rw (lt-ltb (localOf rows m) 128 (omega (arith, is)), ap (holds lo hi) (sym is) ∙ sym e ∙ not-false r h) (ap (λ (v : ℕ). bit v i) q)
+
+-- what must stand before an operation does, by the words of its set
+pub ready-by : (rows : List ℕ) (lo hi x : ℕ) {alo ahi : ℕ} {r : Bool} → alo ≡ field rows 0 x → ahi ≡ field rows 1 x
+    → r ≡ allBelow 128 (λ a. not (holds alo ahi a) || holds lo hi a) → r ≡ allBelow 128 (λ a. not (holds (field rows 0 x) (field rows 1 x) a) || holds lo hi a)
+ready-by rows lo hi x low high e = e ∙ ap₂ (λ (p q : ℕ). allBelow 128 (λ a. not (holds p q a) || holds lo hi a)) low high

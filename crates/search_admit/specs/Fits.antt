@@ -1,0 +1,80 @@
+-- The test of one operation more as a function of the rows.
+use Prim.Native.Nat.{ℕ, _<_}
+use mathlib.Core.Path.{_≡_}
+use mathlib.Core.Bool.{Bool, true, false, not, cond, _&&_, _||_}
+use mathlib.Core.List.{List, [], _∷_, _++_}
+use lib.ListN.{getD}
+use lib.Dec.{eqb, ltb}
+use Rattle.base.specs.Lists.{member}
+use Rattle.base.specs.Below.{allBelow, anyBelow}
+use Rattle.base.specs.Bits.{bit}
+use Rattle.relation_places.specs.Places.{beforeBy, Placed}
+use Rattle.search_sets.specs.Set.{holds}
+use Rattle.search_admit.specs.Rows.{precedes, partnerBy, rivals, bypasses, writtenBits, readBits, readData, visibleWord, ownWord, ownOf, localOf, wordsAfter}
+
+-- the last entry; 255 where there is none
+unfoldable pub lastEntry : List ℕ → ℕ
+lastEntry [] = 255
+lastEntry (x ∷ []) = x
+lastEntry (x ∷ y ∷ xs) = lastEntry (y ∷ xs)
+
+-- operation i may follow x as far as rule 12 goes: all partners of x stand, or i is one of them
+abbrev pub dueAfter : List ℕ → ℕ → ℕ → ℕ → ℕ → Bool
+dueAfter rows x lo hi i = allBelow 128 (λ a. not (partnerBy rows x a) || holds lo hi a) || partnerBy rows x i
+
+-- operation i may follow xs as far as rule 12 goes
+unfoldable pub dueOf : List ℕ → List ℕ → ℕ → ℕ → ℕ → Bool
+dueOf rows xs lo hi i = cond (ltb (lastEntry xs) 128) (dueAfter rows (lastEntry xs) lo hi i) true
+
+-- both or neither
+unfoldable pub same : Bool → Bool → Bool
+same true b = b
+same false b = not b
+
+module _ (rows places : List ℕ) where
+  -- Operation x must wait for m, which does not stand. Rule 10: the own RV of m's store stands before that of x's. Rules 9 and 14: both are own RVs, or
+  -- x is an R, and the LV of m's store stands before that of x's store or before the R.
+  unfoldable pub waitsFor : ℕ → ℕ → Bool
+  waitsFor x m =
+      beforeBy places (ownOf rows m) (ownOf rows x)
+      || eqb (ownOf rows m) m && (eqb (ownOf rows x) x && beforeBy places (localOf rows m) (localOf rows x))
+
+  -- rules 9, 10 and 14, behind what stands
+  unfoldable pub refused : ℕ → ℕ → ℕ → Bool
+  refused lo hi x = anyBelow 128 (λ m. rivals rows x m && not (holds lo hi m) && waitsFor x m)
+
+module _ (rows : List ℕ) (lo hi : ℕ) where
+  -- the LV of m's store stands and its own RV does not: an R of its processor reads its bytes
+  unfoldable pub pending : ℕ → ℕ → Bool
+  pending x m = bypasses rows x m && not (holds lo hi m) && (ltb (localOf rows m) 128 && holds lo hi (localOf rows m))
+
+  -- a bit is read from what the own processor wrote
+  unfoldable pub localBit : ℕ → ℕ → Bool
+  localBit x i = anyBelow 128 (λ m. pending x m && bit (writtenBits rows m) i)
+
+  -- rule 11: each bit that x reads is as recorded
+  unfoldable pub sees : List ℕ → ℕ → Bool
+  sees words x =
+      allBelow 64 (λ i. not (bit (readBits rows x) i)
+      || same (cond (localBit x i) (bit (getD words (ownWord rows x) 0) i) (bit (getD words (visibleWord rows x) 0) i)) (bit (readData rows x) i))
+
+-- what must stand before x stands
+abbrev pub ready : List ℕ → ℕ → ℕ → ℕ → Bool
+ready rows lo hi x = allBelow 128 (λ a. not (precedes rows x a) || holds lo hi a)
+
+-- x is ready, and reads what is recorded
+unfoldable pub enabled : List ℕ → ℕ → ℕ → List ℕ → ℕ → Bool
+enabled rows lo hi words x = ready rows lo hi x && sees rows lo hi words x
+
+-- the tests of operation x, which does not stand, behind what stands; rule 12 aside
+unfoldable pub fitsBy : List ℕ → List ℕ → ℕ → ℕ → List ℕ → ℕ → Bool
+fitsBy rows places lo hi words x = ready rows lo hi x && (not (refused rows places lo hi x) && sees rows lo hi words x)
+
+-- the two words have the operations of a prefix
+abbrev pub Standing : List ℕ → ℕ → ℕ → Type 0
+Standing xs lo hi = (a : ℕ) → a < 128 → holds lo hi a ≡ member xs a
+
+-- The rows test what a test of prefixes says: behind a prefix that passes it, an operation below n may follow exactly when it does not stand and the longer prefix passes.
+pub record Tested (c : List ℕ → Bool) (n : ℕ) (rows : List ℕ) : Type 0 where
+  pub one-more : (xs places : List ℕ) (lo hi x : ℕ) → c xs ≡ true → Placed n xs places → Standing xs lo hi → x < n
+      → (dueOf rows xs lo hi x && (not (holds lo hi x) && fitsBy rows places lo hi (wordsAfter rows xs) x)) ≡ (not (member xs x) && c (xs ++ (x ∷ [])))

@@ -1,0 +1,193 @@
+-- What is compiled of an execution: seventeen words a row for each operation, then the words of memory that the search starts from.
+use Prim.Native.Nat.{ℕ, _+_, _*_, _-_, _/_, _%_, _<_}
+use mathlib.Core.Path.{_≡_}
+use mathlib.Core.Bool.{Bool, true, cond, _&&_, _||_}
+use mathlib.Core.List.{List, [], _∷_}
+use lib.ListN.{length, getD, set, take, drop}
+use lib.Bits.{bitAnd, bitOr, bitXor}
+use lib.Dec.{eqb, leb, ltb}
+use Rattle.base.specs.Lists.{any, member}
+use Rattle.base.specs.Below.{anyBelow}
+use Rattle.base.specs.Bits.{bit}
+use Rattle.model.specs.Execution.{isStore, isRelease, kindOf, stores, operations}
+use Rattle.model.specs.Rules.{linked, inWB, remoteOf, accesses}
+use Rattle.record_decoded.specs.declared.types.Execution.{Execution}
+use Rattle.record_decoded.specs.Decoded.{instructionAt, executionOf}
+use Rattle.relation_marks.specs.Marks.{hasMark, conflictMark, bypassMark, markAt}
+use Rattle.relation_links.specs.declared.operations.Operations.{Operations}
+use Rattle.relation_links.specs.Operations.{operationAt}
+use Rattle.relation_links.specs.Compiled.{Compiled}
+use Rattle.search_sets.specs.Set.{holds}
+
+-- word f of the row of operation x
+abbrev pub field : List ℕ → ℕ → ℕ → ℕ
+field rows f x = getD rows (17 * x + f) 0
+
+-- operation a is in the set of words f and f + 1
+abbrev pub setBy : List ℕ → ℕ → ℕ → ℕ → Bool
+setBy rows f x a = holds (field rows f x) (field rows (f + 1) x) a
+
+module _ (rows : List ℕ) where
+  -- The rows, by what they hold of operation x
+
+  -- a must stand before x
+  abbrev pub precedes : ℕ → ℕ → Bool
+  precedes x a = setBy rows 0 x a
+
+  -- a is an RV of the st.rel to WB that x is an RV of
+  abbrev pub partnerBy : ℕ → ℕ → Bool
+  partnerBy x a = setBy rows 2 x a
+
+  -- x may have to wait for a by rule 9, 10 or 14
+  abbrev pub rivals : ℕ → ℕ → Bool
+  rivals x a = setBy rows 4 x a
+
+  -- a is the own RV of a store whose bytes the R x may read before it
+  abbrev pub bypasses : ℕ → ℕ → Bool
+  bypasses x a = setBy rows 6 x a
+
+  -- the bits that x writes to a word of memory, and what it writes
+  abbrev pub writtenBits : ℕ → ℕ
+  writtenBits x = field rows 8 x
+
+  abbrev pub writtenData : ℕ → ℕ
+  writtenData x = field rows 9 x
+
+  abbrev pub writtenWord : ℕ → ℕ
+  writtenWord x = field rows 10 x % 128
+
+  -- the bits that the R x reads, what it saw, and the words where others' and where its own processor's stores are
+  abbrev pub readBits : ℕ → ℕ
+  readBits x = field rows 11 x
+
+  abbrev pub readData : ℕ → ℕ
+  readData x = field rows 12 x
+
+  abbrev pub visibleWord : ℕ → ℕ
+  visibleWord x = field rows 13 x % 128
+
+  abbrev pub ownWord : ℕ → ℕ
+  ownWord x = field rows 14 x % 128
+
+  -- the own RV and the LV of x's store; of another operation itself
+  abbrev pub ownOf : ℕ → ℕ
+  ownOf x = field rows 15 x
+
+  abbrev pub localOf : ℕ → ℕ
+  localOf x = field rows 16 x
+
+-- a word with some bits written anew
+abbrev pub merged : ℕ → ℕ → ℕ → ℕ
+merged word bits data' = bitOr (bitXor word (bitAnd word bits)) data'
+
+-- the words after operation x
+abbrev pub wordsWith : List ℕ → List ℕ → ℕ → List ℕ
+wordsWith rows words x =
+    set words (writtenWord rows x) (merged (getD words (writtenWord rows x) 0) (writtenBits rows x) (writtenData rows x))
+
+-- the words after more operations, in order
+unfoldable pub wordsFrom : List ℕ → List ℕ → List ℕ → List ℕ
+wordsFrom rows words [] = words
+wordsFrom rows words (x ∷ xs) = wordsFrom rows (wordsWith rows words x) xs
+
+-- the words before any operation stand behind the rows
+abbrev pub firstWords : List ℕ → List ℕ
+firstWords rows = take 128 (drop 2176 rows)
+
+-- the words after the operations of a prefix
+abbrev pub wordsAfter : List ℕ → List ℕ → List ℕ
+wordsAfter rows xs = wordsFrom rows (firstWords rows) xs
+
+-- What the rows hold of an execution
+
+-- an st.rel to WB of which o is an RV, and so is a
+unfoldable pub partner : Execution → ℕ → ℕ → Bool
+partner x o a =
+    any (λ w. isRelease (w .kind) && inWB (executionOf x) w && (member (remoteOf (executionOf x) w) o && member (remoteOf (executionOf x) w) a)) (stores (executionOf x))
+
+-- bit i of the line of instruction w is one of its bytes'
+unfoldable pub covers : Execution → ℕ → ℕ → Bool
+covers x w i = accesses (instructionAt (x .instructions) w) (8 * (getD (x .instructions .addresses) w 0 / 8) + i / 8)
+
+-- bit i of what instruction w saw or wrote, in its line
+unfoldable pub dataBit : Execution → ℕ → ℕ → Bool
+dataBit x w i = covers x w i && bit (getD (x .instructions .bytes) (8 * w + (i / 8 - getD (x .instructions .addresses) w 0 % 8)) 0) (i % 8)
+
+-- Words of memory: what is visible to processor p, line by line, and from 64 on what its own stores wrote.
+abbrev pub visibleAt : ℕ → ℕ → ℕ
+visibleAt p line = 8 * p + line
+
+abbrev pub ownAt : ℕ → ℕ → ℕ
+ownAt p line = 64 + 8 * p + line
+
+-- the role of an LV or an RV
+abbrev pub writes : ℕ → Bool
+writes role = eqb role 1 || leb 3 role
+
+-- The operation for which one with a role may have to wait because of an instruction, by the marks of the two: of a conflicting store the RV to the same
+-- processor, for an R the own RV of a UC store.
+unfoldable pub rivalBy : ℕ → ℕ → ℕ → ℕ → ℕ → Bool
+rivalBy marks role first processor a =
+    cond (eqb role 0) (hasMark marks bypassMark && eqb a (1 + first + processor)) (leb 3 role && (hasMark marks conflictMark && eqb a (1 + first + (role - 3))))
+
+module _ (x : Execution) (t : Operations) (marks : List (List ℕ)) (o : ℕ) where
+  abbrev pub owner : ℕ
+  owner = getD (t .owners) o 0
+
+  abbrev pub role : ℕ
+  role = getD (t .roles) o 0
+
+  abbrev pub processor : ℕ
+  processor = getD (x .instructions .processors) owner 0
+
+  abbrev pub line : ℕ
+  line = getD (x .instructions .addresses) owner 0 / 8
+
+  -- o may have to wait for a because of instruction v
+  abbrev pub rivalOf : ℕ → ℕ → Bool
+  rivalOf v a = rivalBy (markAt marks v owner) role (getD (x .instructions .firsts) v 0) (getD (x .instructions .processors) v 0) a
+
+  -- instruction v is a store of o's processor to its line
+  abbrev pub besides : ℕ → Bool
+  besides v =
+      isStore (kindOf (getD (x .instructions .kinds) v 0))
+      && (eqb (getD (x .instructions .processors) v 0) processor && eqb (getD (x .instructions .addresses) v 0 / 8) line)
+
+  -- o is an R, and a the own RV of such a store v
+  abbrev pub bypassOf : ℕ → ℕ → Bool
+  bypassOf v a = eqb role 0 && (besides v && eqb a (1 + getD (x .instructions .firsts) v 0 + getD (x .instructions .processors) v 0))
+
+  pub record RowOf (row : ℕ → ℕ) : Type 0 where
+    pub preds-are : (a : ℕ) → a < 128
+        → holds (row 0) (row 1) a
+        ≡ (ltb a (operations (executionOf x)) && linked (executionOf x) (operationAt (x .instructions) t a) (operationAt (x .instructions) t o))
+    pub partners-are : (a : ℕ) → a < 128 → holds (row 2) (row 3) a ≡ partner x o a
+    pub rivals-are : (a : ℕ) → a < 128 → holds (row 4) (row 5) a ≡ anyBelow (x .instructions .count) (λ v. rivalOf v a)
+    pub bypasses-are : (a : ℕ) → a < 128 → holds (row 6) (row 7) a ≡ anyBelow (x .instructions .count) (λ v. bypassOf v a)
+    pub writes-bits : (i : ℕ) → i < 64 → bit (row 8) i ≡ (writes role && covers x owner i)
+    pub writes-data : (i : ℕ) → i < 64 → bit (row 9) i ≡ (writes role && dataBit x owner i)
+    pub writes-word : writes role ≡ true → row 10 ≡ cond (eqb role 1) (ownAt processor line) (visibleAt (role - 3) line)
+    pub reads-bits : (i : ℕ) → i < 64 → bit (row 11) i ≡ (eqb role 0 && covers x owner i)
+    pub reads-data : (i : ℕ) → i < 64 → bit (row 12) i ≡ (eqb role 0 && dataBit x owner i)
+    pub reads-visible : role ≡ 0 → row 13 ≡ visibleAt processor line
+    pub reads-own : role ≡ 0 → row 14 ≡ ownAt processor line
+    pub own-is : row 15 ≡ cond (writes role) (1 + getD (x .instructions .firsts) owner 0 + processor) o
+    pub local-is : row 16 ≡ cond (writes role) (getD (x .instructions .firsts) owner 0) o
+
+-- bytes are below 256
+abbrev pub Bytes : List ℕ → Type 0
+Bytes l = (j : ℕ) → getD l j 0 < 256
+
+-- in each word before any operation are the initial bytes of its line
+abbrev pub Initial : Execution → List ℕ → Type 0
+Initial x words =
+    (c i : ℕ) → c < 128 → i < 64 → bit (getD words c 0) i ≡ bit (getD (x .lines .initial) (8 * (c % 8) + i / 8) 0) (i % 8)
+
+-- the rows and the first words hold what they should of the execution
+pub record Holds (x : Execution) (t : Operations) (marks : List (List ℕ)) (rows : List ℕ) : Type 0 where
+  pub compiled : Compiled x t marks
+  pub rowed : (o : ℕ) → o < operations (executionOf x) → RowOf x t marks o (λ f. field rows f o)
+  pub whole : length rows ≡ 2304
+  pub starts : Initial x (firstWords rows)
+  pub data-bytes : Bytes (x .instructions .bytes)
+  pub initial-bytes : Bytes (x .lines .initial)

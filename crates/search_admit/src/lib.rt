@@ -1,0 +1,229 @@
+// The tests of one operation more behind a consistent prefix, on compiled rows.
+ghost use mathlib.Core.Path.{_≡_};
+ghost use mathlib.Core.Bool.{not, cond, _&&_, _||_};
+ghost use Prim.Native.Nat.{ℕ, _+_, _%_, _<_};
+ghost use lib.ListN.{length, getD, set};
+ghost use Rattle.base.specs.Below.{allBelow, anyBelow};
+ghost use Rattle.base.specs.Bits.{bit};
+ghost use Rattle.search_sets.specs.Set.{holds};
+ghost use Rattle.search_admit.specs.Rows.{field, writtenBits, writtenWord, localOf, wordsWith};
+ghost use lib.Dec.{ltb};
+ghost use Rattle.search_admit.specs.Fits.{same, waitsFor, refused, localBit, sees, enabled};
+use relation_places::before;
+use search_sets::Set;
+use search_sets::first;
+use search_sets::has;
+use search_sets::minus;
+use search_sets::subset;
+
+// The words of a row, in their order.
+pub const PREDS: usize = 0;
+
+pub const PARTNERS: usize = 2;
+
+pub const RIVALS: usize = 4;
+
+pub const BYPASSES: usize = 6;
+
+pub const WRITTEN_BITS: usize = 8;
+
+pub const WRITTEN_DATA: usize = 9;
+
+pub const WRITTEN_WORD: usize = 10;
+
+pub const READ_BITS: usize = 11;
+
+pub const READ_DATA: usize = 12;
+
+pub const VISIBLE_WORD: usize = 13;
+
+pub const OWN_WORD: usize = 14;
+
+pub const OWN: usize = 15;
+
+pub const LOCAL: usize = 16;
+
+// Word f of the row of operation x.
+pub fn field_of(rows: &[u64; 2304], x: usize, f: usize) -> u64
+    requires { ⌜ (x < 128) × (f < 17) ⌝ }
+    ensures { λ r. ⌜ r ≡ field (now (rows .entry)) f x ⌝ }
+{
+    rows[17 * x + f]
+}
+
+// A word of memory; there are 128.
+fn word_at(words: &[u64; 128], at: u64) -> u64
+    ensures { λ r. ⌜ r ≡ getD (now (words .entry)) (at % 128) 0 ⌝ }
+{
+    words[(at % 128) as usize]
+}
+
+// The set in words f and f + 1 of the row of operation x.
+pub fn set_of(rows: &[u64; 2304], x: usize, f: usize) -> Set
+    requires { ⌜ (x < 128) × (f < 16) ⌝ }
+    ensures { λ r. ⌜ (r .lo ≡ field (now (rows .entry)) f x) × (r .hi ≡ field (now (rows .entry)) (f + 1) x) ⌝ }
+{
+    let lo = rows[17 * x + f];
+    let hi = rows[17 * x + (f + 1)];
+    Set { lo, hi }
+}
+
+// Whether operation x must wait for operation m, which does not stand.
+fn waits_for(rows: &[u64; 2304], places: &[u8; 128], x: usize, m: usize) -> bool
+    requires { ⌜ (x < 128) × (m < 128) ⌝ }
+    ensures { λ r. ⌜ r ≡ waitsFor (now (rows .entry)) (now (places .entry)) x m ⌝ }
+{
+    let own_m = field_of(rows, m, OWN) as usize;
+    let own_x = field_of(rows, x, OWN) as usize;
+    if before(places, own_m, own_x) {
+        return true;
+    }
+    if own_m != m {
+        return false;
+    }
+    if own_x != x {
+        return false;
+    }
+    let local_m = field_of(rows, m, LOCAL) as usize;
+    let local_x = field_of(rows, x, LOCAL) as usize;
+    before(places, local_m, local_x)
+}
+
+// Whether operation x must wait for one of those that are missing.
+fn waits_for_any(rows: &[u64; 2304], places: &[u8; 128], missing: Set, x: usize) -> bool
+    requires { ⌜ x < 128 ⌝ }
+    ensures { λ r. ⌜ r ≡ anyBelow 128 (λ (m : ℕ). holds (missing .lo) (missing .hi) m && waitsFor (now (rows .entry)) (now (places .entry)) x m) ⌝ }
+{
+    let mut m = first(missing, 0);
+    while m < 128 {
+        if waits_for(rows, places, x, m) {
+            return true;
+        }
+        let from = m + 1;
+        m = first(missing, from);
+    }
+    false
+}
+
+// Rules 9, 10 and 14: whether operation x must wait for an operation that does not stand. Mostly none is missing, so that is asked first.
+pub fn is_refused(rows: &[u64; 2304], places: &[u8; 128], stand: Set, x: usize) -> bool
+    requires { ⌜ x < 128 ⌝ }
+    ensures { λ r. ⌜ r ≡ refused (now (rows .entry)) (now (places .entry)) (stand .lo) (stand .hi) x ⌝ }
+{
+    let rivals = set_of(rows, x, RIVALS);
+    if subset(rivals, stand) {
+        return false;
+    }
+    waits_for_any(rows, places, minus(rivals, stand), x)
+}
+
+// The bits that the store of m wrote, where its LV stands.
+fn bits_of(rows: &[u64; 2304], stand: Set, m: usize) -> u64
+    requires { ⌜ m < 128 ⌝ }
+    ensures { λ r. ⌜ ((i : ℕ) → bit r i ≡ (ltb (localOf (now (rows .entry)) m) 128 && holds (stand .lo) (stand .hi) (localOf (now (rows .entry)) m) && bit (writtenBits (now (rows .entry)) m) i)) ⌝ }
+{
+    let local = field_of(rows, m, LOCAL) as usize;
+    if local >= 128 {
+        return 0;
+    }
+    if !has(stand, local) {
+        return 0;
+    }
+    field_of(rows, m, WRITTEN_BITS)
+}
+
+// The bits that those of the missing stores wrote whose LVs stand.
+fn pending_bits(rows: &[u64; 2304], stand: Set, missing: Set) -> u64
+    ensures { λ r. ⌜ ((i : ℕ) → bit r i ≡ anyBelow 128 (λ (m : ℕ). holds (missing .lo) (missing .hi) m && (ltb (localOf (now (rows .entry)) m) 128 && holds (stand .lo) (stand .hi) (localOf (now (rows .entry)) m) && bit (writtenBits (now (rows .entry)) m) i))) ⌝ }
+{
+    let mut bits = 0;
+    let mut m = first(missing, 0);
+    while m < 128 {
+        bits |= bits_of(rows, stand, m);
+        let from = m + 1;
+        m = first(missing, from);
+    }
+    bits
+}
+
+// The bits that the R x reads from what its own processor wrote. Mostly no store is missing, so that is asked first.
+fn local_bits(rows: &[u64; 2304], stand: Set, x: usize) -> u64
+    requires { ⌜ x < 128 ⌝ }
+    ensures { λ r. ⌜ ((i : ℕ) → bit r i ≡ localBit (now (rows .entry)) (stand .lo) (stand .hi) x i) ⌝ }
+{
+    let stores = set_of(rows, x, BYPASSES);
+    if subset(stores, stand) {
+        return 0;
+    }
+    pending_bits(rows, stand, minus(stores, stand))
+}
+
+// Whether what is seen, of `own` where `local` is set and of `visible` elsewhere, is `data` in some bits.
+fn agrees(own: u64, visible: u64, local: u64, data: u64, bits: u64) -> bool
+    ensures { λ r. ⌜ r ≡ allBelow 64 (λ (i : ℕ). not (bit bits i) || same (cond (bit local i) (bit own i) (bit visible i)) (bit «data» i)) ⌝ }
+{
+    let seen = (own & local) | (visible ^ (visible & local));
+    (seen ^ data) & bits == 0
+}
+
+// Rule 11: whether operation x reads what is recorded.
+fn reads_right(rows: &[u64; 2304], words: &[u64; 128], stand: Set, x: usize) -> bool
+    requires { ⌜ x < 128 ⌝ }
+    ensures { λ r. ⌜ r ≡ sees (now (rows .entry)) (stand .lo) (stand .hi) (now (words .entry)) x ⌝ }
+{
+    let bits = field_of(rows, x, READ_BITS);
+    if bits == 0 {
+        return true;
+    }
+    let local = local_bits(rows, stand, x);
+    let own = word_at(words, field_of(rows, x, OWN_WORD));
+    let visible = word_at(words, field_of(rows, x, VISIBLE_WORD));
+    agrees(own, visible, local, field_of(rows, x, READ_DATA), bits)
+}
+
+// Whether what must stand before operation x stands, and x reads what is recorded: `stand` has the operations that stand, `words` what they wrote.
+pub fn is_enabled(rows: &[u64; 2304], words: &[u64; 128], stand: Set, x: usize) -> bool
+    requires { ⌜ x < 128 ⌝ }
+    ensures { λ r. ⌜ r ≡ enabled (now (rows .entry)) (stand .lo) (stand .hi) (now (words .entry)) x ⌝ }
+{
+    if !subset(set_of(rows, x, PREDS), stand) {
+        return false;
+    }
+    reads_right(rows, words, stand, x)
+}
+
+// Whether operation x is enabled before any operation stands: nothing must stand before it, and it reads what its own processor has not written.
+pub fn is_enabled_first(rows: &[u64; 2304], words: &[u64; 128], x: usize) -> bool
+    requires { ⌜ x < 128 ⌝ }
+    ensures { λ r. ⌜ r ≡ enabled (now (rows .entry)) 0 0 (now (words .entry)) x ⌝ }
+{
+    let none = Set { lo: 0, hi: 0 };
+    if !subset(set_of(rows, x, PREDS), none) {
+        return false;
+    }
+    let own = word_at(words, field_of(rows, x, OWN_WORD));
+    let visible = word_at(words, field_of(rows, x, VISIBLE_WORD));
+    let bits = field_of(rows, x, READ_BITS);
+    agrees(own, visible, 0, field_of(rows, x, READ_DATA), bits)
+}
+
+// Writes what operation x writes, and answers with the word that was there.
+pub fn write(rows: &[u64; 2304], words: &mut [u64], x: usize) -> u64
+    requires { ⌜ (x < 128) × (length (now words) ≡ 128) ⌝ }
+    ensures { λ r. ⌜ (r ≡ getD (now (words .entry)) (writtenWord (now (rows .entry)) x) 0) × (now (words .exit) ≡ wordsWith (now (rows .entry)) (now (words .entry)) x) ⌝ }
+{
+    let at = (field_of(rows, x, WRITTEN_WORD) % 128) as usize;
+    let old = words[at];
+    let kept = old ^ (old & field_of(rows, x, WRITTEN_BITS));
+    words[at] = kept | field_of(rows, x, WRITTEN_DATA);
+    old
+}
+
+// Puts back the word that operation x wrote over.
+pub fn unwrite(rows: &[u64; 2304], words: &mut [u64], x: usize, old: u64)
+    requires { ⌜ (x < 128) × (length (now words) ≡ 128) ⌝ }
+    ensures { λ _. ⌜ now (words .exit) ≡ set (now (words .entry)) (writtenWord (now (rows .entry)) x) old ⌝ }
+{
+    let at = (field_of(rows, x, WRITTEN_WORD) % 128) as usize;
+    words[at] = old;
+}

@@ -1,0 +1,26 @@
+-- A store, of the processor, to the line.
+use mathlib.Core.Path.{ap, ap₂, _∙_}
+use mathlib.Core.Bool.{_&&_}
+use Rattle.model.specs.Execution.{isStore}
+use borrow.Author.Needs.{needs}
+use Rattle.search_constraints.proofs.is_beside.Statement.{statement}
+use Rattle.search_constraints.proofs.is_beside.Tie as tie
+
+kind-of-requires : tie.Need-kind-of-requires
+kind-of-requires c κs = search needs
+
+is-store-requires : tie.Need-is-store-requires
+is-store-requires c κs = search needs
+
+both-requires : tie.Need-both-requires
+both-requires c κs = search needs
+
+both-requires-2 : tie.Need-both-requires-2
+both-requires-2 c κs = search needs
+
+returns : tie.Need-returns
+returns c = c .both2 .ensures ∙ ap₂ _&&_ (c .before .before .is-store .ensures ∙ ap isStore (c .before .before .before .kind-of .ensures)) (c .before .both .ensures)
+
+pub is-beside-spec : {M : Type 1} → statement M
+is-beside-spec =
+    tie.close (tie.spec kind-of-requires is-store-requires both-requires both-requires-2 returns)

@@ -1,0 +1,94 @@
+-- Each turn takes in the operations of one instruction more.
+use native.Mathlib.Omega.{arith}
+use Prim.Native.Nat.{ℕ, _-_}
+use mathlib.Core.Path.{ap, _∙_}
+use mathlib.Core.Bool.{_||_}
+use lib.ListN.{getD}
+use Rattle.model.specs.Execution.{kindOf}
+use Rattle.relation_marks.specs.Marks.{markAt}
+use Rattle.search_sets.specs.Set.{holds}
+use Rattle.search_constraints.specs.Rows.{linkedFrom, linkedOf}
+use Rattle.search_constraints.proofs.SetLaws.{Added, adds-none, adds-more, added}
+use borrow.Author.Needs.{needs}
+use Rattle.search_constraints.proofs.preds_at.Statement.{statement}
+use Rattle.search_constraints.proofs.preds_at.Tie as tie
+
+abbrev Inv-loop : tie.InvT-loop
+Inv-loop n every kinds firsts processors marks w role set₀ v₀ set v =
+    Added n (λ u a. linkedOf every kinds firsts processors marks w role u a) v (set .lo) (set .hi)
+
+abbrev μ-loop : tie.MeasureT-loop
+μ-loop n every kinds firsts processors marks w role set₀ v₀ set v = n - v
+
+loop-holds : tie.Need-loop-holds Inv-loop μ-loop
+loop-holds c = adds-none
+
+mul-wide16 : tie.Need-mul-wide16 Inv-loop μ-loop
+mul-wide16 c = search needs
+
+element-copy-out-wide16 : tie.Need-element-copy-out-wide16 Inv-loop μ-loop
+element-copy-out-wide16 c = search needs
+
+wide16-requires : tie.Need-wide16-requires Inv-loop μ-loop
+wide16-requires c κs = search needs
+
+element-copy-out-kind : tie.Need-element-copy-out-kind Inv-loop μ-loop
+element-copy-out-kind c = search needs
+
+element-copy-out-processor : tie.Need-element-copy-out-processor Inv-loop μ-loop
+element-copy-out-processor c = search needs
+
+mul-with-linked : tie.Need-mul-with-linked Inv-loop μ-loop
+mul-with-linked c = search needs
+
+mul-with-linked-2 : tie.Need-mul-with-linked-2 Inv-loop μ-loop
+mul-with-linked-2 c = search needs
+
+index-1-with-linked : tie.Need-index-1-with-linked Inv-loop μ-loop
+index-1-with-linked c = search needs
+
+index-2-with-linked : tie.Need-index-2-with-linked Inv-loop μ-loop
+index-2-with-linked c = search needs
+
+with-linked-requires : tie.Need-with-linked-requires Inv-loop μ-loop
+with-linked-requires c κs = search needs
+
+add-v : tie.Need-add-v Inv-loop μ-loop
+add-v c = search needs
+
+loop-less : tie.Need-loop-less Inv-loop μ-loop
+loop-less c = omega (arith, c .before .before .before .before .before .before .loop-test .taken)
+
+loop-again : tie.Need-loop-again Inv-loop μ-loop
+loop-again c =
+    let g = c .before .before .before .before .before .before .before .before .args in
+    let s = c .before .before .before .before .before .before .before .loop .set in
+    let v = c .before .before .before .before .before .before .before .loop .v in
+    adds-more (c .before .before .before .before .before .before .before .loop .inv) (c .before .before .before .before .before .before .loop-test .taken) (c .with-linked .result .lo) (c .with-linked .result .hi)
+    (λ a l. c .with-linked .ensures a l
+    ∙ ap (λ (f : ℕ). holds (s .lo) (s .hi) a || linkedFrom (markAt (g .marks .now) v (g .w)) (kindOf (getD (g .kinds .now) v 0)) (getD (g .processors .now) v 0) f (g .every) (g .role) a) (c .before .before .before .before .wide16 .ensures .0))
+
+returns : tie.Need-returns Inv-loop μ-loop
+returns c = added (c .before .loop .inv) (c .loop-test .left)
+
+pub preds-at-spec : {M : Type 1} → statement M
+preds-at-spec =
+    tie.close
+    (tie.spec
+    Inv-loop
+    μ-loop
+    loop-holds
+    mul-wide16
+    element-copy-out-wide16
+    wide16-requires
+    element-copy-out-kind
+    element-copy-out-processor
+    mul-with-linked
+    mul-with-linked-2
+    index-1-with-linked
+    index-2-with-linked
+    with-linked-requires
+    add-v
+    loop-less
+    loop-again
+    returns)

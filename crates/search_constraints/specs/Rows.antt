@@ -1,0 +1,52 @@
+-- What the sets of operations hold, by the tables.
+use Prim.Native.Nat.{ℕ, suc, _+_, _-_, _/_}
+use mathlib.Core.Bool.{Bool, not, _&&_}
+use mathlib.Core.List.{List, map}
+use lib.ListN.{length, getD}
+use lib.Dec.{eqb, leb, ltb}
+use Rattle.base.specs.Lists.{below, member}
+use Rattle.model.specs.Execution.{Kind, kindOf, isStore, F, RV, roles}
+use Rattle.record_decoded.specs.Kinds.{roleNumbered}
+use Rattle.record_decoded.specs.declared.types.Execution.{Execution}
+use Rattle.relation_marks.specs.Marks.{hasMark, atomicMark, markAt}
+use Rattle.relation_links.specs.declared.operations.Operations.{Operations}
+use Rattle.relation_links.specs.Linked.{linkedBy}
+
+-- the numbers of the RVs of a store, by that of its LV
+unfoldable pub remotesFrom : ℕ → ℕ → List ℕ
+remotesFrom first processors = map (λ q. suc first + q) (below processors)
+
+-- an operation with a role is an RV of an st.rel to WB, by the marks of its instruction, and a is one of the RVs
+unfoldable pub partnerOf : ℕ → ℕ → ℕ → ℕ → ℕ → Bool
+partnerOf marks role first processors a = not (ltb role 3) && (hasMark marks atomicMark && member (remotesFrom first processors) a)
+
+-- operation o is an RV of an st.rel to WB, and a is one of its RVs
+unfoldable pub partnerAt : Execution → Operations → List (List ℕ) → ℕ → ℕ → Bool
+partnerAt x t marks o a =
+    partnerOf (markAt marks (getD (t .owners) o 0) (getD (t .owners) o 0)) (getD (t .roles) o 0)
+    (getD (x .instructions .firsts) (getD (t .owners) o 0) 0) (x .processors) a
+
+-- Links to an operation with a role from those of an instruction of processor p, by the marks of the two and the number of its first operation
+
+-- a is an RV of the instruction, a store, and linked
+unfoldable pub remoteLinked : ℕ → ℕ → ℕ → ℕ → ℕ → ℕ → Bool
+remoteLinked marks p first processors role a =
+    leb (1 + first) a && (ltb a (1 + first + processors) && linkedBy marks p (RV (a - (1 + first))) (roleNumbered role))
+
+-- a is an operation of the instruction, and linked
+unfoldable pub linkedFrom : ℕ → Kind → ℕ → ℕ → ℕ → ℕ → ℕ → Bool
+linkedFrom marks kind p first processors role a =
+    leb first a && (ltb a (first + length (roles processors kind)) && linkedBy marks p (getD (roles processors kind) (a - first) F) (roleNumbered role))
+
+-- By the kinds, first operations, processors and addresses of the instructions
+
+-- a is an operation of instruction v, and some rule links it to one of instruction w with a role
+abbrev pub linkedOf : ℕ → List ℕ → List ℕ → List ℕ → List (List ℕ) → ℕ → ℕ → ℕ → ℕ → Bool
+linkedOf every kinds firsts processors marks w role v a =
+    linkedFrom (markAt marks v w) (kindOf (getD kinds v 0)) (getD processors v 0) (getD firsts v 0) every role a
+
+-- instruction v is a store of w's processor to its line
+abbrev pub besideBy : List ℕ → List ℕ → List ℕ → ℕ → ℕ → Bool
+besideBy kinds processors addresses w v =
+    isStore (kindOf (getD kinds v 0))
+    && (eqb (getD processors v 0) (getD processors w 0) && eqb (getD addresses v 0 / 8) (getD addresses w 0 / 8))

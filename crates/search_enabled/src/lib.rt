@@ -1,0 +1,169 @@
+// The operations that are enabled behind a prefix, kept up entry by entry.
+ghost use mathlib.Core.Path.{_≡_};
+ghost use mathlib.Core.Bool.{_&&_, _||_};
+ghost use Prim.Native.Nat.{ℕ, _<_, _≤_};
+ghost use lib.ListN.{length};
+ghost use lib.Dec.{eqb};
+ghost use Rattle.base.specs.Below.{anyBelow};
+ghost use Rattle.search_sets.specs.Set.{holds, setAt};
+ghost use Rattle.search_admit.specs.Rows.{localOf};
+ghost use Rattle.search_admit.specs.Fits.{enabled, dueAfter};
+ghost use Rattle.search_enabled.specs.Moves.{writesTo, moves, Moving, enabledAfter};
+use search_admit::BYPASSES;
+use search_admit::LOCAL;
+use search_admit::OWN_WORD;
+use search_admit::PARTNERS;
+use search_admit::PREDS;
+use search_admit::READ_BITS;
+use search_admit::VISIBLE_WORD;
+use search_admit::WRITTEN_WORD;
+use search_admit::field_of;
+use search_admit::is_enabled;
+use search_admit::is_enabled_first;
+use search_admit::set_of;
+use search_sets::Set;
+use search_sets::at;
+use search_sets::common;
+use search_sets::first;
+use search_sets::insert;
+use search_sets::insert_if;
+use search_sets::minus;
+use search_sets::put;
+use search_sets::subset;
+use search_sets::union;
+
+// A set, with the LVs of stores that are given by their own RVs.
+fn with_locals(set: Set, rows: &[u64; 2304], stores: Set) -> Set
+    ensures { λ r. ⌜ ((a : ℕ) → a < 128 → holds (r .lo) (r .hi) a ≡ (holds (set .lo) (set .hi) a || anyBelow 128 (λ (m : ℕ). holds (stores .lo) (stores .hi) m && eqb (localOf (now (rows .entry)) m) a))) ⌝ }
+{
+    let mut all = set;
+    let mut m = first(stores, 0);
+    while m < 128 {
+        let local = field_of(rows, m, LOCAL) as usize;
+        all = insert_if(all, local, true);
+        let from = m + 1;
+        m = first(stores, from);
+    }
+    all
+}
+
+// Whether operation a writes a word that the R y reads.
+fn writes_to(rows: &[u64; 2304], a: usize, y: usize) -> bool
+    requires { ⌜ (a < 128) × (y < 128) ⌝ }
+    ensures { λ r. ⌜ r ≡ writesTo (now (rows .entry)) a y ⌝ }
+{
+    let written = field_of(rows, a, WRITTEN_WORD) % 128;
+    if written == field_of(rows, y, VISIBLE_WORD) % 128 {
+        return true;
+    }
+    written == field_of(rows, y, OWN_WORD) % 128
+}
+
+// A set, with the operations of n that write a word that the R y reads.
+fn with_writers(set: Set, n: usize, rows: &[u64; 2304], y: usize) -> Set
+    requires { ⌜ (n ≤ 128) × (y < 128) ⌝ }
+    ensures { λ r. ⌜ ((a : ℕ) → a < n → holds (r .lo) (r .hi) a ≡ (holds (set .lo) (set .hi) a || writesTo (now (rows .entry)) a y)) ⌝ }
+{
+    let mut all = set;
+    for a in 0..n {
+        let writes = writes_to(rows, a, y);
+        all = insert_if(all, a, writes);
+    }
+    all
+}
+
+// The operations, of n, that may change whether y is enabled.
+fn movers_of(n: usize, rows: &[u64; 2304], y: usize) -> Set
+    requires { ⌜ (n ≤ 128) × (y < 128) ⌝ }
+    ensures { λ r. ⌜ ((a : ℕ) → a < n → holds (r .lo) (r .hi) a ≡ moves (now (rows .entry)) a y) ⌝ }
+{
+    let preds = set_of(rows, y, PREDS);
+    if field_of(rows, y, READ_BITS) == 0 {
+        return preds;
+    }
+    let stores = set_of(rows, y, BYPASSES);
+    let read = with_locals(stores, rows, stores);
+    union(preds, with_writers(read, n, rows, y))
+}
+
+// Puts y into the sets of those that move it.
+fn put_moved(moved: &mut [u64], movers: Set, y: usize)
+    requires { ⌜ (y < 128) × (length (now moved) ≡ 256) ⌝ }
+    ensures { λ _. ⌜ ((a k : ℕ) → a < 128 → setAt (now (moved .exit)) a k ≡ (setAt (now (moved .entry)) a k || (holds (movers .lo) (movers .hi) a && eqb k y))) × (length (now (moved .exit)) ≡ 256) ⌝ }
+{
+    let mut a = first(movers, 0);
+    while a < 128 {
+        let set = at(moved, a);
+        put(moved, a, insert(set, y));
+        let from = a + 1;
+        a = first(movers, from);
+    }
+}
+
+// For each operation those that it moves.
+pub fn moved_by(n: usize, rows: &[u64; 2304]) -> [u64; 256]
+    requires { ⌜ n ≤ 128 ⌝ }
+    ensures { λ r. ⌜ Moving n (now (rows .entry)) r ⌝ }
+{
+    let mut moved = [0u64; 256];
+    for y in 0..n {
+        let movers = movers_of(n, rows, y);
+        put_moved(&mut moved, movers, y);
+    }
+    moved
+}
+
+// The operations of n that are enabled before any stands.
+pub fn first_enabled(n: usize, rows: &[u64; 2304], words: &[u64; 128]) -> Set
+    requires { ⌜ n ≤ 128 ⌝ }
+    ensures { λ r. ⌜ ((y : ℕ) → y < n → holds (r .lo) (r .hi) y ≡ enabled (now (rows .entry)) 0 0 (now (words .entry)) y) ⌝ }
+{
+    let mut all = Set { lo: 0, hi: 0 };
+    for y in 0..n {
+        let now = is_enabled_first(rows, words, y);
+        all = insert_if(all, y, now);
+    }
+    all
+}
+
+// Those that are enabled behind x, the last that stands, by those that were before.
+pub fn enabled_after(
+    rows: &[u64; 2304],
+    moved: &[u64; 256],
+    words: &[u64; 128],
+    before: Set,
+    stand: Set,
+    x: usize,
+) -> Set
+    requires { ⌜ x < 128 ⌝ }
+    ensures { λ r. ⌜ ((y : ℕ) → y < 128 → holds (r .lo) (r .hi) y ≡ enabledAfter (now (rows .entry)) (now (moved .entry)) (now (words .entry)) (before .lo) (before .hi) (stand .lo) (stand .hi) x y) ⌝ }
+{
+    let touched = at(moved, x);
+    let kept = minus(minus(before, touched), stand);
+    if subset(touched, stand) {
+        return kept;
+    }
+    let again = minus(touched, stand);
+    let mut all = kept;
+    let mut y = first(again, 0);
+    while y < 128 {
+        let now = is_enabled(rows, words, stand, y);
+        all = insert_if(all, y, now);
+        let from = y + 1;
+        y = first(again, from);
+    }
+    all
+}
+
+// Those of them that may follow x as far as rule 12 goes.
+pub fn open_after(rows: &[u64; 2304], set: Set, stand: Set, x: usize) -> Set
+    requires { ⌜ x < 128 ⌝ }
+    ensures { λ r. ⌜ ((y : ℕ) → holds (r .lo) (r .hi) y ≡ (dueAfter (now (rows .entry)) x (stand .lo) (stand .hi) y && holds (set .lo) (set .hi) y)) ⌝ }
+{
+    let partners = set_of(rows, x, PARTNERS);
+    if subset(partners, stand) {
+        set
+    } else {
+        common(partners, set)
+    }
+}

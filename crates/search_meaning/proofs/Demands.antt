@@ -1,0 +1,315 @@
+-- Rules 9, 10 and 14: an instruction that refuses an operation is a demand that is lost.
+use Prim.Native.Nat.{ℕ, _+_, _-_, _≤_, _<_}
+use native.Mathlib.Omega.{arith}
+use mathlib.Core.Path.{_≡_, refl, sym, ap, ap₂, _∙_, subst}
+use mathlib.Core.Bool.{Bool, true, false, not, _&&_, _||_}
+use mathlib.Core.List.{List, [], _∷_, map, List·Memᴰ, List·Memᴰ·eq-of-singleton, List·Memᴰ·cases-cons, Memᴰ·of-map}
+use mathlib.Core.Logic.{_⊎_, inl, inr}
+use lib.ListN.{getD}
+use lib.Dec.{eqb, leb}
+use borrow.Author.Tests.{eq-eqb, eqb-true, leb-true, le-leb, ne-eqb}
+use Rattle.base.specs.Lists.{any, when, for, below, member}
+use Rattle.base.specs.Bits.{bit}
+use Rattle.base.proofs.Bools.{agree, split, clash, and-parts, and-both, or-right}
+use Rattle.base.proofs.Bits.{bit-packed}
+use Rattle.base.proofs.Lists.{any-one, any-witness, any-member, any-for, any-when, of-below, in-keep}
+use Rattle.base.proofs.Tests.{some-at, any-passes}
+use Rattle.model.specs.Execution as model
+use Rattle.model.specs.Execution.{Kind, ld, ld-acq, st, st-rel, mf, isLoad, isStore, Instruction, Role, R, LV, RV, roles, numberOf, stores, loads, everyProcessor, operations}
+use Rattle.model.specs.Rules.{before, overlap, inUC, conflict, RV-own}
+use Rattle.model.proofs.Accepted.{Accepted}
+use Rattle.record_decoded.specs.Kinds.{roleNumbered}
+use Rattle.record_decoded.specs.Decoded.{instructionAt, executionOf}
+use Rattle.relation_places.specs.Places.{beforeBy, Placed}
+use Rattle.relation_places.proofs.PlaceLaws.{before-placed, member-placed}
+use Rattle.relation_marks.specs.Marks.{hasMark, markAt, marksOf, marksBetween}
+use Rattle.relation_links.proofs.CompiledLaws.{owner-there}
+use Rattle.search_reduction.specs.Admits.{ownDemands, remoteDemands, bypassDemands, missing, lost}
+use Rattle.search_reduction.proofs.Settled.{before-absent}
+use Rattle.search_reduction.proofs.Pairs.{pair-passes, passing-pair}
+use Rattle.search_reduction.proofs.Apart.{is-store, is-load, R-role, RV-role, store-processor, processor-in, in-processors}
+use Rattle.search_meaning.proofs.Tables.{Tables, Holds}
+use Rattle.search_meaning.proofs.Refusals.{missingBy, storeLost, loadLost, refusesBy, refusedBy}
+use Rattle.search_meaning.proofs.Owners.{number-R, number-RV, role-R, role-RV, role-in, number-is, owner-is, by-number, numbered-in}
+
+-- an RV of an instruction is to a processor
+among : {p q : ℕ} → (RV q ≡ LV) ⊎ List·Memᴰ (RV q) (map RV (below p)) → q < p
+among {p} {q} (inl h) = let z : _≡_ {A = ℕ} 0 1 = cc in absurd (omega arith)
+among {p} {q} (inr k) = let (r, mr, h) = Memᴰ·of-map RV (below p) k in let z : r ≡ q = cc in omega (arith, of-below p mr)
+
+pub role-few : {p q : ℕ} (k : Kind) → List·Memᴰ (RV q) (roles p k) → q < p
+unfolding roles
+role-few {p} {q} ld m = let z : _≡_ {A = ℕ} 0 1 = (let w = List·Memᴰ·eq-of-singleton m in cc) in absurd (omega arith)
+role-few {p} {q} ld-acq m = let z : _≡_ {A = ℕ} 0 1 = (let w = List·Memᴰ·eq-of-singleton m in cc) in absurd (omega arith)
+role-few st m = among (List·Memᴰ·cases-cons m)
+role-few st-rel m = among (List·Memᴰ·cases-cons m)
+role-few {p} {q} mf m = let z : _≡_ {A = ℕ} 0 1 = (let w = List·Memᴰ·eq-of-singleton m in cc) in absurd (omega arith)
+
+-- the parts of a test with an 'or'
+or-parts : (a b : Bool) → (a || b) ≡ true → (a ≡ true) ⊎ (b ≡ true)
+or-parts true b h = inl refl
+or-parts false b h = inr h
+
+module _ {t : Tables} (h : Holds t) (accepted : Accepted (executionOf (t .execution))) (x : ℕ) (low : x < operations (executionOf (t .execution)))
+    {xs places : List ℕ} {n : ℕ} (p : Placed n xs places) (new : member xs x ≡ false) where
+  abbrev e : model.Execution
+  e = executionOf (t .execution)
+
+  abbrev instruction : ℕ → Instruction
+  instruction i = instructionAt (t .execution .instructions) i
+
+  abbrev owner : ℕ
+  owner = getD (t .operations .owners) x 0
+
+  abbrev roleNumber : ℕ
+  roleNumber = getD (t .operations .roles) x 0
+
+  owner-low : owner < t .execution .instructions .count
+  owner-low = owner-there (h .compiled) x (omega (arith, h .compiled .tabled .counts))
+
+  -- what does not stand, and what stands before what, by places
+  missing-at : (a b : ℕ) → a ≡ b → missingBy places a ≡ missing e x xs b
+  missing-at a b q = ap not (sym (member-placed p a)) ∙ ap (λ (o : ℕ). not (member xs o)) q
+
+  earlier-at : (a b c d : ℕ) → a ≡ c → b ≡ d → beforeBy places a b ≡ before xs c d
+  earlier-at a b c d q r = sym (before-placed p a b) ∙ ap₂ (before xs) q r
+
+  -- the marks of instruction v with the owner of x
+  pub conflict-mark : (v : ℕ) → v < t .execution .instructions .count
+      → hasMark (markAt (t .marks) v owner) 128 ≡ (isStore (instruction v .kind) && isStore (instruction owner .kind) && conflict e (instruction v) (instruction owner))
+  unfolding marksBetween marksOf
+  conflict-mark v l = ap (λ (m : ℕ). bit m 7) (h .compiled .marked v owner l owner-low) ∙ bit-packed (marksOf e (instruction v) (instruction owner)) 7
+
+  abbrev exposed : Instruction → Instruction → Bool
+  exposed w l = inUC e w && (eqb (w .processor) (l .processor) && overlap w l)
+
+  pub bypass-mark : (v : ℕ) → v < t .execution .instructions .count
+      → hasMark (markAt (t .marks) v owner) 256 ≡ (isStore (instruction v .kind) && isLoad (instruction owner .kind) && exposed (instruction v) (instruction owner))
+  unfolding marksBetween marksOf
+  bypass-mark v l = ap (λ (m : ℕ). bit m 8) (h .compiled .marked v owner l owner-low) ∙ bit-packed (marksOf e (instruction v) (instruction owner)) 8
+
+  -- instruction v refuses x
+  abbrev refusal : ℕ → Bool
+  refusal v = refusesBy places (t .execution .instructions) (t .marks) roleNumber owner v
+
+  pub load-refusal : (v : ℕ) → roleNumber ≡ 0
+      → refusal v ≡ (hasMark (markAt (t .marks) v owner) 256 && loadLost places (instruction v .first) (instruction v .processor))
+  unfolding refusesBy instructionAt
+  load-refusal v q = rw (eq-eqb roleNumber 0 q) refl
+
+  pub store-refusal : (v : ℕ) → (roleNumber ≡ 0 → ⊥) → 3 ≤ roleNumber
+      → refusal v
+      ≡ (hasMark (markAt (t .marks) v owner) 128
+      && storeLost places (roleNumber - 3) (instruction v .first) (instruction v .processor) (instruction owner .first) (instruction owner .processor))
+  unfolding refusesBy instructionAt
+  store-refusal v q l = rw (ne-eqb roleNumber 0 q, le-leb 3 roleNumber l) refl
+
+  abbrev demanded : Bool
+  demanded = any (lost e x xs) (ownDemands e x) || any (lost e x xs) (remoteDemands e x) || any (lost e x xs) (bypassDemands e x)
+
+  -- a store and a load are kept in their lists
+  pub store-in : (v : ℕ) → v < t .execution .instructions .count → isStore (instruction v .kind) ≡ true → List·Memᴰ (instruction v) (stores e)
+  unfolding stores
+  store-in v l k = in-keep (λ i. isStore (i .kind)) (numbered-in t v l) k
+
+  load-in : (v : ℕ) → v < t .execution .instructions .count → isLoad (instruction v .kind) ≡ true → List·Memᴰ (instruction v) (loads e)
+  unfolding loads
+  load-in v l k = in-keep (λ i. isLoad (i .kind)) (numbered-in t v l) k
+
+  abbrev is-refused : Bool
+  is-refused = refusedBy places (t .execution .instructions) (t .operations) (t .marks) x
+
+  refuses-it : (v : ℕ) → v < t .execution .instructions .count → refusal v ≡ true → is-refused ≡ true
+  unfolding refusedBy
+  refuses-it v l r = any-passes refusal (t .execution .instructions .count) v l r
+
+  -- x is the RV to q of store w, and store v refuses it
+  store-refuses : (v w : Instruction) (q : ℕ) → List·Memᴰ v (stores e) → List·Memᴰ w (stores e) → q < e .processors → x ≡ numberOf w (RV q) → conflict e v w ≡ true
+      → storeLost places q (v .first) (v .processor) (w .first) (w .processor) ≡ true → is-refused ≡ true
+  store-refuses v w q mv mw few at c k =
+      let (iw, sw) = is-store e mw in
+      let (iv, sv) = is-store e mv in
+      let (same, role) = owner-is h accepted x low iw (RV-role (e .processors) (w .kind) q few sw) at in
+      let (i, li, vi) = by-number t iv in
+      by-owner i li (sym vi) same role sv sw
+    where
+      by-owner : (i : ℕ) → i < t .execution .instructions .count → v ≡ instruction i → w ≡ instruction owner → RV q ≡ roleNumbered roleNumber
+          → isStore (v .kind) ≡ true → isStore (w .kind) ≡ true → is-refused ≡ true
+      by-owner i l vi wo role sv sw =
+          let number = number-RV roleNumber q (sym role) in
+          refuses-it i l (store-refusal i (λ z. omega arith) (omega arith)
+          ∙ and-both (conflict-mark i l ∙ and-both (and-both (ap (λ (u : Instruction). isStore (u .kind)) (sym vi) ∙ sv) (ap (λ (u : Instruction). isStore (u .kind)) (sym wo) ∙ sw)) (ap₂ (conflict e) (sym vi) (sym wo) ∙ c))
+          (ap (λ (j : ℕ). storeLost places j (instruction i .first) (instruction i .processor) (instruction owner .first) (instruction owner .processor)) (let z : roleNumber - 3 ≡ q = omega arith in z)
+          ∙ ap₂ (λ (a b : Instruction). storeLost places q (a .first) (a .processor) (b .first) (b .processor)) (sym vi) (sym wo) ∙ k))
+
+  -- the two ways to be lost
+  own-lost : (v w : Instruction) → v .processor ≡ w .processor → before xs (numberOf v LV) (numberOf w LV) ≡ true → missing e x xs (RV-own v) ≡ true
+      → storeLost places (w .processor) (v .first) (v .processor) (w .first) (w .processor) ≡ true
+  unfolding storeLost
+  own-lost v w q b m =
+      or-right (beforeBy places (1 + v .first + v .processor) (1 + w .first + w .processor) && missingBy places (1 + v .first + w .processor))
+      (eqb (w .processor) (w .processor) && (eqb (v .processor) (w .processor) && (beforeBy places (v .first) (w .first) && missingBy places (1 + v .first + v .processor))))
+      (and-both (eq-eqb (w .processor) (w .processor) refl) (and-both (eq-eqb (v .processor) (w .processor) q)
+      (and-both (earlier-at (v .first) (w .first) (v .first) (w .first) refl refl ∙ b) (missing-at (1 + v .first + v .processor) (RV-own v) (omega arith) ∙ m))))
+
+  remote-lost : (v w : Instruction) (q : ℕ) → before xs (RV-own v) (RV-own w) ≡ true → missing e x xs (numberOf v (RV q)) ≡ true
+      → storeLost places q (v .first) (v .processor) (w .first) (w .processor) ≡ true
+  unfolding storeLost
+  remote-lost v w q b m =
+      ap (λ (u : Bool). u || (eqb q (w .processor) && (eqb (v .processor) (w .processor) && (beforeBy places (v .first) (w .first) && missingBy places (1 + v .first + v .processor)))))
+      (and-both (earlier-at (1 + v .first + v .processor) (1 + w .first + w .processor) (RV-own v) (RV-own w) (omega arith) (omega arith) ∙ b)
+      (missing-at (1 + v .first + q) (numberOf v (RV q)) (omega arith) ∙ m))
+
+  lost-parts : (v w : Instruction) (q : ℕ) → storeLost places q (v .first) (v .processor) (w .first) (w .processor) ≡ true
+      → ((before xs (RV-own v) (RV-own w) ≡ true) × (missing e x xs (numberOf v (RV q)) ≡ true))
+      ⊎ ((q ≡ w .processor) × (eqb (v .processor) (w .processor) ≡ true) × (before xs (numberOf v LV) (numberOf w LV) ≡ true) × (missing e x xs (RV-own v) ≡ true))
+  unfolding storeLost
+  lost-parts v w q k = go (or-parts (beforeBy places (1 + v .first + v .processor) (1 + w .first + w .processor) && missingBy places (1 + v .first + q)) _ k)
+    where
+      go : ((beforeBy places (1 + v .first + v .processor) (1 + w .first + w .processor) && missingBy places (1 + v .first + q)) ≡ true)
+          ⊎ ((eqb q (w .processor) && (eqb (v .processor) (w .processor) && (beforeBy places (v .first) (w .first) && missingBy places (1 + v .first + v .processor)))) ≡ true)
+          → ((before xs (RV-own v) (RV-own w) ≡ true) × (missing e x xs (numberOf v (RV q)) ≡ true))
+          ⊎ ((q ≡ w .processor) × (eqb (v .processor) (w .processor) ≡ true) × (before xs (numberOf v LV) (numberOf w LV) ≡ true) × (missing e x xs (RV-own v) ≡ true))
+      go (inl a) =
+          let (b, m) = and-parts (beforeBy places (1 + v .first + v .processor) (1 + w .first + w .processor)) (missingBy places (1 + v .first + q)) a in
+          inl (
+            sym (earlier-at (1 + v .first + v .processor) (1 + w .first + w .processor) (RV-own v) (RV-own w) (omega arith) (omega arith)) ∙ b,
+            sym (missing-at (1 + v .first + q) (numberOf v (RV q)) (omega arith)) ∙ m,
+          )
+      go (inr a) =
+          let (a1, a2) = and-parts (eqb q (w .processor)) (eqb (v .processor) (w .processor) && (beforeBy places (v .first) (w .first) && missingBy places (1 + v .first + v .processor))) a in
+          let (a3, a4) = and-parts (eqb (v .processor) (w .processor)) (beforeBy places (v .first) (w .first) && missingBy places (1 + v .first + v .processor)) a2 in
+          let (b, m) = and-parts (beforeBy places (v .first) (w .first)) (missingBy places (1 + v .first + v .processor)) a4 in
+          inr (eqb-true q (w .processor) a1, a3, sym (earlier-at (v .first) (w .first) (v .first) (w .first) refl refl) ∙ b, sym (missing-at (1 + v .first + v .processor) (RV-own v) (omega arith)) ∙ m)
+
+  -- rule 9
+  own-refused : any (lost e x xs) (ownDemands e x) ≡ true → is-refused ≡ true
+  unfolding ownDemands
+  own-refused d =
+      let (v, mv, w, mw, c, k) = passing-pair (lost e x xs) (stores e) (stores e)
+      (λ v w. conflict e v w && (eqb (v .processor) (w .processor) && eqb x (RV-own w))) (λ v w. (numberOf v LV, numberOf w LV, RV-own v) ∷ []) d in
+      go v w mv mw c (sym (any-one (lost e x xs) (numberOf v LV, numberOf w LV, RV-own v)) ∙ k)
+    where
+      go : (v w : Instruction) → List·Memᴰ v (stores e) → List·Memᴰ w (stores e) → (conflict e v w && (eqb (v .processor) (w .processor) && eqb x (RV-own w))) ≡ true
+          → (before xs (numberOf v LV) (numberOf w LV) && missing e x xs (RV-own v)) ≡ true → is-refused ≡ true
+      go v w mv mw c k =
+          let (c1, c2) = and-parts (conflict e v w) (eqb (v .processor) (w .processor) && eqb x (RV-own w)) c in
+          let (c3, c4) = and-parts (eqb (v .processor) (w .processor)) (eqb x (RV-own w)) c2 in
+          let (k1, k2) = and-parts (before xs (numberOf v LV) (numberOf w LV)) (missing e x xs (RV-own v)) k in
+          store-refuses v w (w .processor) mv mw (store-processor e accepted mw) (eqb-true x (RV-own w) c4) c1 (own-lost v w (eqb-true (v .processor) (w .processor) c3) k1 k2)
+
+  -- rule 10
+  remote-refused : any (lost e x xs) (remoteDemands e x) ≡ true → is-refused ≡ true
+  unfolding remoteDemands
+  remote-refused d =
+      let (v, mv, w, mw, c, k) = passing-pair (lost e x xs) (stores e) (stores e) (conflict e)
+      (λ v w. for (everyProcessor e) (λ q. when (eqb x (numberOf w (RV q))) ((RV-own v, RV-own w, numberOf v (RV q)) ∷ []))) d in
+      go v w mv mw c (any-witness _ (everyProcessor e) (sym (any-for (lost e x xs) (everyProcessor e) _) ∙ k))
+    where
+      go : (v w : Instruction) → List·Memᴰ v (stores e) → List·Memᴰ w (stores e) → conflict e v w ≡ true
+          → (q : ℕ) × List·Memᴰ q (everyProcessor e) × (any (lost e x xs) (when (eqb x (numberOf w (RV q))) ((RV-own v, RV-own w, numberOf v (RV q)) ∷ [])) ≡ true) → is-refused ≡ true
+      go v w mv mw c (q, mq, k) =
+          let (a, b) = and-parts (eqb x (numberOf w (RV q))) (any (lost e x xs) ((RV-own v, RV-own w, numberOf v (RV q)) ∷ []))
+          (sym (any-when (lost e x xs) (eqb x (numberOf w (RV q))) ((RV-own v, RV-own w, numberOf v (RV q)) ∷ [])) ∙ k) in
+          let (k1, k2) = and-parts (before xs (RV-own v) (RV-own w)) (missing e x xs (numberOf v (RV q))) (sym (any-one (lost e x xs) (RV-own v, RV-own w, numberOf v (RV q))) ∙ b) in
+          store-refuses v w q mv mw (in-processors e mq) (eqb-true x (numberOf w (RV q)) a) c (remote-lost v w q k1 k2)
+
+  -- rule 14
+  load-lost : (w : Instruction) → loadLost places (w .first) (w .processor) ≡ (before xs (numberOf w LV) x && missing e x xs (RV-own w))
+  unfolding loadLost
+  load-lost w =
+      ap₂ _&&_ (sym (member-placed p (w .first)) ∙ sym (before-absent xs (w .first) x new)) (missing-at (1 + w .first + w .processor) (RV-own w) (omega arith))
+
+  bypass-refused : any (lost e x xs) (bypassDemands e x) ≡ true → is-refused ≡ true
+  unfolding bypassDemands
+  bypass-refused d =
+      let (w, mw, l, ml, c, k) = passing-pair (lost e x xs) (stores e) (loads e) (λ w l. exposed w l && eqb x (numberOf l R)) (λ w l. (numberOf w LV, x, RV-own w) ∷ []) d in
+      let (iw, sw) = is-store e mw in
+      let (il, sl) = is-load e ml in
+      let (c1, c2) = and-parts (exposed w l) (eqb x (numberOf l R)) c in
+      let (same, role) = owner-is h accepted x low il (R-role (e .processors) (l .kind) sl) (eqb-true x (numberOf l R) c2) in
+      let (i, li, vi) = by-number t iw in
+      go w l i li (sym vi) same role sw sl c1 (sym (any-one (lost e x xs) (numberOf w LV, x, RV-own w)) ∙ k)
+    where
+      go : (w l : Instruction) (i : ℕ) → i < t .execution .instructions .count → w ≡ instruction i → l ≡ instruction owner → R ≡ roleNumbered roleNumber
+          → isStore (w .kind) ≡ true → isLoad (l .kind) ≡ true → exposed w l ≡ true → (before xs (numberOf w LV) x && missing e x xs (RV-own w)) ≡ true → is-refused ≡ true
+      go w l i li wi lo role sw sl c k =
+          refuses-it i li (load-refusal i (number-R roleNumber (sym role))
+          ∙ and-both (bypass-mark i li
+          ∙ and-both (and-both (ap (λ (u : Instruction). isStore (u .kind)) (sym wi) ∙ sw) (ap (λ (u : Instruction). isLoad (u .kind)) (sym lo) ∙ sl)) (ap₂ exposed (sym wi) (sym lo) ∙ c))
+          (ap (λ (u : Instruction). loadLost places (u .first) (u .processor)) (sym wi) ∙ load-lost w ∙ k))
+
+  -- x as an operation of its instruction
+  x-is : (r : Role) → roleNumbered roleNumber ≡ r → eqb x (numberOf (instruction owner) r) ≡ true
+  x-is r q = eq-eqb x (numberOf (instruction owner) r) (sym (number-is h accepted x low) ∙ ap (numberOf (instruction owner)) q)
+
+  -- the processor of an RV
+  pub remote-few : (q : ℕ) → roleNumbered roleNumber ≡ RV q → q < e .processors
+  remote-few q r = role-few (instruction owner .kind) (subst (λ (s : Role). List·Memᴰ s (roles (e .processors) (instruction owner .kind))) r (role-in h accepted x low))
+
+  bypass-demanded : (v : ℕ) → v < t .execution .instructions .count → roleNumber ≡ 0 → refusal v ≡ true → any (lost e x xs) (bypassDemands e x) ≡ true
+  unfolding bypassDemands
+  bypass-demanded v l q r =
+      let (m, k) = and-parts (hasMark (markAt (t .marks) v owner) 256) (loadLost places (instruction v .first) (instruction v .processor)) (sym (load-refusal v q) ∙ r) in
+      let (m1, c) = and-parts (isStore (instruction v .kind) && isLoad (instruction owner .kind)) (exposed (instruction v) (instruction owner)) (sym (bypass-mark v l) ∙ m) in
+      let (sv, sl) = and-parts (isStore (instruction v .kind)) (isLoad (instruction owner .kind)) m1 in
+      pair-passes (lost e x xs) (stores e) (loads e) (λ w l. exposed w l && eqb x (numberOf l R)) (λ w l. (numberOf w LV, x, RV-own w) ∷ [])
+      (store-in v l sv) (load-in owner owner-low sl) (and-both c (x-is R (role-R roleNumber q)))
+      (any-one (lost e x xs) (numberOf (instruction v) LV, x, RV-own (instruction v)) ∙ sym (load-lost (instruction v)) ∙ k)
+
+  store-demanded : (v : ℕ) → v < t .execution .instructions .count → (roleNumber ≡ 0 → ⊥) → 3 ≤ roleNumber → refusal v ≡ true
+      → (any (lost e x xs) (ownDemands e x) || any (lost e x xs) (remoteDemands e x)) ≡ true
+  unfolding ownDemands remoteDemands
+  store-demanded v l z few r =
+      let (m, k) = and-parts (hasMark (markAt (t .marks) v owner) 128) _ (sym (store-refusal v z few) ∙ r) in
+      let (m1, c) = and-parts (isStore (instruction v .kind) && isStore (instruction owner .kind)) (conflict e (instruction v) (instruction owner)) (sym (conflict-mark v l) ∙ m) in
+      let (sv, sw) = and-parts (isStore (instruction v .kind)) (isStore (instruction owner .kind)) m1 in
+      go (store-in v l sv) (store-in owner owner-low sw) c (lost-parts (instruction v) (instruction owner) (roleNumber - 3) k)
+    where
+      role : roleNumbered roleNumber ≡ RV (roleNumber - 3)
+      role = role-RV roleNumber few
+
+      go : List·Memᴰ (instruction v) (stores e) → List·Memᴰ (instruction owner) (stores e) → conflict e (instruction v) (instruction owner) ≡ true
+          → ((before xs (RV-own (instruction v)) (RV-own (instruction owner)) ≡ true) × (missing e x xs (numberOf (instruction v) (RV (roleNumber - 3))) ≡ true))
+          ⊎ ((roleNumber - 3 ≡ instruction owner .processor) × (eqb (instruction v .processor) (instruction owner .processor) ≡ true)
+          × (before xs (numberOf (instruction v) LV) (numberOf (instruction owner) LV) ≡ true) × (missing e x xs (RV-own (instruction v)) ≡ true))
+          → (any (lost e x xs) (ownDemands e x) || any (lost e x xs) (remoteDemands e x)) ≡ true
+      go mv mw c (inl (b, m)) =
+          or-right (any (lost e x xs) (ownDemands e x)) (any (lost e x xs) (remoteDemands e x))
+          (pair-passes (lost e x xs) (stores e) (stores e) (conflict e)
+          (λ v w. for (everyProcessor e) (λ q. when (eqb x (numberOf w (RV q))) ((RV-own v, RV-own w, numberOf v (RV q)) ∷ []))) mv mw c
+          (any-for (lost e x xs) (everyProcessor e) _
+          ∙ any-member _ (processor-in e (roleNumber - 3) (remote-few (roleNumber - 3) role))
+          (any-when (lost e x xs) (eqb x (numberOf (instruction owner) (RV (roleNumber - 3)))) _
+          ∙ and-both (x-is (RV (roleNumber - 3)) role) (any-one (lost e x xs) (RV-own (instruction v), RV-own (instruction owner), numberOf (instruction v) (RV (roleNumber - 3))) ∙ and-both b m))))
+      go mv mw c (inr (q, s, b, m)) =
+          ap (λ (u : Bool). u || any (lost e x xs) (remoteDemands e x))
+          (pair-passes (lost e x xs) (stores e) (stores e) (λ v w. conflict e v w && (eqb (v .processor) (w .processor) && eqb x (RV-own w))) (λ v w. (numberOf v LV, numberOf w LV, RV-own v) ∷ []) mv mw
+          (and-both c (and-both s (x-is (RV (instruction owner .processor)) (role ∙ ap RV q))))
+          (any-one (lost e x xs) (numberOf (instruction v) LV, numberOf (instruction owner) LV, RV-own (instruction v)) ∙ and-both b m))
+
+  refused-demanded : is-refused ≡ true → demanded ≡ true
+  unfolding refusedBy refusesBy
+  refused-demanded r =
+      let (v, l, k) = some-at refusal (t .execution .instructions .count) r in
+      split (eqb roleNumber 0)
+      (λ z. or-right (any (lost e x xs) (ownDemands e x) || any (lost e x xs) (remoteDemands e x)) (any (lost e x xs) (bypassDemands e x))
+      (bypass-demanded v l (eqb-true roleNumber 0 z) k))
+      (λ z. split (leb 3 roleNumber)
+      (λ s. ap (λ (u : Bool). u || any (lost e x xs) (bypassDemands e x))
+      (store-demanded v l (λ q. clash (eq-eqb roleNumber 0 q) z) (leb-true 3 roleNumber s) k))
+      (λ s. clash k (rw (z, s) refl)))
+
+  pub refused-is : refusedBy places (t .execution .instructions) (t .operations) (t .marks) x ≡ demanded
+  refused-is =
+      agree (refusedBy places (t .execution .instructions) (t .operations) (t .marks) x) demanded refused-demanded
+      (λ d. from (or-parts (any (lost e x xs) (ownDemands e x) || any (lost e x xs) (remoteDemands e x)) (any (lost e x xs) (bypassDemands e x)) d))
+    where
+      first : (any (lost e x xs) (ownDemands e x) ≡ true) ⊎ (any (lost e x xs) (remoteDemands e x) ≡ true) → refusedBy places (t .execution .instructions) (t .operations) (t .marks) x ≡ true
+      first (inl k) = own-refused k
+      first (inr k) = remote-refused k
+
+      from : ((any (lost e x xs) (ownDemands e x) || any (lost e x xs) (remoteDemands e x)) ≡ true) ⊎ (any (lost e x xs) (bypassDemands e x) ≡ true)
+          → refusedBy places (t .execution .instructions) (t .operations) (t .marks) x ≡ true
+      from (inl k) = first (or-parts (any (lost e x xs) (ownDemands e x)) (any (lost e x xs) (remoteDemands e x)) k)
+      from (inr k) = bypass-refused k

@@ -1,0 +1,75 @@
+-- The rows of the operations of a store, by the store.
+use Prim.Native.Nat.{ℕ, _+_, _-_, _≤_, _<_}
+use native.Mathlib.Omega.{arith}
+use mathlib.Core.Path.{_≡_, sym, ap, _∙_}
+use mathlib.Core.Bool.{Bool, true, false, cond, _||_, or-true}
+use mathlib.Core.List.{List, List·Memᴰ}
+use lib.ListN.{getD}
+use lib.Dec.{eqb}
+use borrow.Author.Tests.{le-leb}
+use Rattle.model.specs.Execution as model
+use Rattle.model.specs.Execution.{Instruction, RV, numberOf, stores, operations}
+use Rattle.model.proofs.Accepted.{Accepted}
+use Rattle.record_decoded.specs.Decoded.{instructionAt, executionOf}
+use Rattle.search_reduction.proofs.Apart.{is-store, RV-in, RV-role}
+use Rattle.search_admit.specs.Rows.{ownOf, localOf, writes}
+use Rattle.search_meaning.proofs.Tables.{Tables, Holds}
+use Rattle.search_meaning.proofs.Owners.{number-RV, owner-is, number-low}
+
+-- an RV writes
+pub RV-writes : (k : ℕ) → 3 ≤ k → writes k ≡ true
+RV-writes k h = ap (λ (b : Bool). eqb k 1 || b) (le-leb 3 k h) ∙ or-true (eqb k 1)
+
+module _ {t : Tables} (h : Holds t) (accepted : Accepted (executionOf (t .execution))) where
+  abbrev e : model.Execution
+  e = executionOf (t .execution)
+
+  abbrev instruction : ℕ → Instruction
+  instruction i = instructionAt (t .execution .instructions) i
+
+  abbrev owner : ℕ → ℕ
+  owner o = getD (t .operations .owners) o 0
+
+  abbrev roleOf : ℕ → ℕ
+  roleOf o = getD (t .operations .roles) o 0
+
+  -- operation o is the RV to q of store w
+  pub record IsRV (w : Instruction) (q o : ℕ) : Type 0 where
+    pub low : o < operations e
+    pub owner-is : w ≡ instruction (owner o)
+    pub role-is : roleOf o ≡ 3 + q
+    pub own : ownOf (t .rows) o ≡ 1 + w .first + w .processor
+    pub local : localOf (t .rows) o ≡ w .first
+
+  -- what writes, by its owner
+  pub own-by : (o : ℕ) → o < operations e → writes (roleOf o) ≡ true → ownOf (t .rows) o ≡ 1 + instruction (owner o) .first + instruction (owner o) .processor
+  unfolding instructionAt
+  own-by o l w = h .rowed o l .own-is ∙ ap (λ (b : Bool). cond b (1 + instruction (owner o) .first + instruction (owner o) .processor) o) w
+
+  pub local-by : (o : ℕ) → o < operations e → writes (roleOf o) ≡ true → localOf (t .rows) o ≡ instruction (owner o) .first
+  unfolding instructionAt
+  local-by o l w = h .rowed o l .local-is ∙ ap (λ (b : Bool). cond b (instruction (owner o) .first) o) w
+
+  -- what does not write is alone
+  pub own-itself : (o : ℕ) → o < operations e → writes (roleOf o) ≡ false → ownOf (t .rows) o ≡ o
+  unfolding instructionAt
+  own-itself o l w = h .rowed o l .own-is ∙ ap (λ (b : Bool). cond b (1 + instruction (owner o) .first + instruction (owner o) .processor) o) w
+
+  pub local-itself : (o : ℕ) → o < operations e → writes (roleOf o) ≡ false → localOf (t .rows) o ≡ o
+  unfolding instructionAt
+  local-itself o l w = h .rowed o l .local-is ∙ ap (λ (b : Bool). cond b (instruction (owner o) .first) o) w
+
+  pub is-RV : {w : Instruction} → List·Memᴰ w (stores e) → (q : ℕ) → q < e .processors → (o : ℕ) → o ≡ numberOf w (RV q) → IsRV w q o
+  is-RV {w} mw q few o at =
+      let low : o < operations e = omega (arith, number-low h (RV-in e mw q few)) in
+      let (iw, sw) = is-store e mw in
+      let (same, role) = owner-is h accepted o low iw (RV-role (e .processors) (w .kind) q few sw) at in
+      let number : roleOf o ≡ 3 + q = number-RV (roleOf o) q (sym role) in
+      let written = RV-writes (roleOf o) (omega arith) in
+      record {
+        low = low;
+        owner-is = same;
+        role-is = number;
+        own = own-by o low written ∙ ap (λ (i : Instruction). 1 + i .first + i .processor) (sym same);
+        local = local-by o low written ∙ ap (λ (i : Instruction). i .first) (sym same);
+      }

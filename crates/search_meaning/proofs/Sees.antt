@@ -1,0 +1,387 @@
+-- Rule 11: the words of memory show an R the bytes that the rule has it read.
+use Prim.Native.Nat.{ℕ, _+_, _*_, _-_, _/_, _%_, _<_}
+use native.Mathlib.Omega.{arith}
+use mathlib.Core.Path.{_≡_, refl, sym, ap, ap₂, _∙_, subst}
+use mathlib.Core.Bool.{Bool, true, false, not, cond, _&&_, _||_}
+use mathlib.Core.List.{List, [], map, List·Memᴰ, List·Memᴰ·cases-cons, List·Memᴰ·eq-of-singleton, Memᴰ·of-map}
+use mathlib.Core.Logic.{_⊎_, inl, inr}
+use lib.ListN.{length, getD, drop, length-drop}
+use lib.Seq.{length-take-le}
+use lib.Dec.{eqb, leb, ltb}
+use borrow.Author.Tests.{eq-eqb, eqb-true, le-leb, leb-true, ltb-true, lt-ltb, not-true}
+use Rattle.base.specs.Lists.{any, keep, count, below, member, distinct}
+use Rattle.base.specs.Below.{allBelow, anyBelow}
+use Rattle.base.specs.Bits.{bit}
+use Rattle.base.proofs.Bools.{agree, split, clash, is-false, and-parts, and-both}
+use Rattle.base.proofs.Lists.{any-witness, any-member, any-map, any-keep, any-for, any-when, in-keep, of-keep, in-count, of-count, keep-map, map-map, distinct-in}
+use Rattle.base.proofs.Tests.{some-at, any-passes, all-at, all-below}
+use Rattle.model.specs.Execution as model
+use Rattle.model.specs.Execution.{Kind, ld, ld-acq, st, st-rel, mf, Instruction, Role, R, LV, RV, isLoad, isStore, roles, numberOf, stores, loads, operations, initialByte}
+use Rattle.model.specs.Rules.{accesses, addresses, byteWritten, byteSeen, Writer, Sight, sightOf}
+use Rattle.model.proofs.Accepted.{Accepted, Sound}
+use Rattle.record_decoded.specs.Decoded.{instructionAt, executionOf}
+use Rattle.search_reduction.specs.Admits.{lastByte, missing, byteNow, unseen, sights}
+use Rattle.search_reduction.proofs.Apart.{each-in, is-store, is-load, R-role, store-processor}
+use Rattle.search_sets.specs.Set.{holds}
+use Rattle.search_admit.specs.Rows.{bypasses, bypassOf, writtenBits, localOf, readBits, readData, visibleWord, ownWord, visibleAt, ownAt, covers, dataBit, firstWords, wordsAfter}
+use Rattle.search_admit.specs.Fits.{same, pending, localBit, sees, Standing}
+use Rattle.search_meaning.proofs.Tables.{Tables, Holds}
+use Rattle.search_meaning.proofs.Owners.{number-R, role-R, role-in, owner-in, owner-is, number-is, by-number, numbered-in}
+use Rattle.search_meaning.proofs.OperationRows.{RV-writes, IsRV, is-RV}
+use Rattle.search_meaning.proofs.Bytes.{Within, same-byte, accesses-within, covers-is, data-is, byte-small, initial-at}
+use Rattle.search_meaning.proofs.Words.{last-below, words-are}
+use Rattle.search_meaning.proofs.Sources.{visible-does, own-does}
+
+-- bits that are the same
+same-true : (a b : Bool) → same a b ≡ true → a ≡ b
+unfolding same
+same-true true b h = sym h
+same-true false true h = h
+same-true false false h = refl
+
+same-refl : (a b : Bool) → a ≡ b → same a b ≡ true
+unfolding same
+same-refl true b h = sym h
+same-refl false b h = ap not (sym h)
+
+-- an R is a load's
+not-stored : (p : ℕ) → (R ≡ LV) ⊎ List·Memᴰ R (map RV (below p)) → ⊥
+not-stored p (inl h) = let z : _≡_ {A = ℕ} 0 1 = cc in omega arith
+not-stored p (inr k) = let (q, mq, h) = Memᴰ·of-map RV (below p) k in let z : _≡_ {A = ℕ} 0 1 = cc in omega arith
+
+R-load : (p : ℕ) (k : Kind) → List·Memᴰ R (roles p k) → isLoad k ≡ true
+unfolding roles
+R-load p ld m = refl
+R-load p ld-acq m = refl
+R-load p st m = absurd (not-stored p (List·Memᴰ·cases-cons m))
+R-load p st-rel m = absurd (not-stored p (List·Memᴰ·cases-cons m))
+R-load p mf m = let z : _≡_ {A = ℕ} 0 1 = (let w = List·Memᴰ·eq-of-singleton m in cc) in absurd (omega arith)
+
+-- the bytes of an access
+of-reach : (i : Instruction) (b : ℕ) → List·Memᴰ b (addresses i) → accesses i b ≡ true
+unfolding addresses accesses
+of-reach i b m = let (l, r) = of-count (i .address) (i .size) m in and-both (le-leb (i .address) b l) (lt-ltb b (i .address + i .size) r)
+
+in-reach : (i : Instruction) (b : ℕ) → accesses i b ≡ true → List·Memᴰ b (addresses i)
+unfolding addresses accesses
+in-reach i b h =
+    let (l, r) = and-parts (leb (i .address) b) (ltb b (i .address + i .size)) h in
+    in-count (i .address) (i .size) b (leb-true (i .address) b l) (ltb-true b (i .address + i .size) r)
+
+module _ {t : Tables} (h : Holds t) (accepted : Accepted (executionOf (t .execution))) (x : ℕ) (low : x < operations (executionOf (t .execution)))
+    (xs : List ℕ) (apart : distinct (operations (executionOf (t .execution))) [] xs ≡ true) (lo hi : ℕ) (standing : Standing xs lo hi) where
+  abbrev e : model.Execution
+  e = executionOf (t .execution)
+
+  abbrev instruction : ℕ → Instruction
+  instruction i = instructionAt (t .execution .instructions) i
+
+  abbrev owner : ℕ
+  owner = getD (t .operations .owners) x 0
+
+  abbrev role : ℕ
+  role = getD (t .operations .roles) x 0
+
+  abbrev load : Instruction
+  load = instruction owner
+
+  abbrev words : List ℕ
+  words = wordsAfter (t .rows) xs
+
+  first-long : length (firstWords (t .rows)) ≡ 128
+  first-long = length-take-le 128 (drop 2176 (t .rows)) (omega (arith, length-drop 2176 (t .rows), h .whole))
+
+  here : List·Memᴰ load (e .instructions)
+  here = owner-in h accepted x low
+
+  few : load .processor < e .processors
+  few = each-in (Sound (e .processors) (length (e .lines))) (accepted .sound) here .own
+
+  -- x is an R, and b one of its bytes
+  module _ (reads : role ≡ 0) (b k i : ℕ) (reads-b : accesses load b ≡ true) (at : i / 8 ≡ b % 8) (bits : i % 8 ≡ k) where
+    its : Within (length (e .lines)) load b
+    its = accesses-within (t .execution) accepted owner b here reads-b
+
+    small : i < 64
+    small = omega (arith, at)
+
+    line-low : b / 8 < 8
+    line-low = omega (arith, its .there, accepted .lines-few)
+
+    processor-low : load .processor < 8
+    processor-low = omega (arith, few, accepted .processors-few)
+
+    abbrev sight : Sight
+    sight = sightOf e load b
+
+    -- the words that are read
+    visible-word : visibleWord (t .rows) x ≡ visibleAt (load .processor) (b / 8)
+    unfolding instructionAt
+    visible-word =
+        ap (λ (v : ℕ). v % 128) (h .rowed x low .reads-visible reads)
+        ∙ (let z : visibleAt (load .processor) (load .address / 8) % 128 ≡ visibleAt (load .processor) (b / 8) = omega (arith, its .one-line, line-low, processor-low) in z)
+
+    own-word : ownWord (t .rows) x ≡ ownAt (load .processor) (b / 8)
+    unfolding instructionAt
+    own-word =
+        ap (λ (v : ℕ). v % 128) (h .rowed x low .reads-own reads)
+        ∙ (let z : ownAt (load .processor) (load .address / 8) % 128 ≡ ownAt (load .processor) (b / 8) = omega (arith, its .one-line, line-low, processor-low) in z)
+
+    first-bit : (c : ℕ) → c < 128 → c % 8 ≡ b / 8 → bit (getD (firstWords (t .rows)) c 0) i ≡ bit (initialByte e b) k
+    first-bit c l m =
+        h .starts c i l small
+        ∙ ap₂ (λ (j n : ℕ). bit (getD (t .execution .lines .initial) j 0) n) (omega (arith, m)) bits
+        ∙ ap (λ (v : ℕ). bit v k) (sym (initial-at (t .execution) accepted b (its .there)))
+
+    -- what is visible, and what the own processor wrote
+    visible-bit : bit (getD words (visibleWord (t .rows) x) 0) i ≡ bit (lastByte (map (λ w. (w .rv, w .wrote)) (sight .writers)) (sight .initial) xs) k
+    unfolding sightOf
+    visible-bit =
+        ap (λ (c : ℕ). bit (getD words c 0) i) visible-word
+        ∙ words-are (t .rows) _ (visibleAt (load .processor) (b / 8)) i k (omega (arith, line-low, processor-low)) xs
+        (λ o m. visible-does h accepted (load .processor) b k i few (its .there) at bits o (distinct-in (operations e) [] xs apart m))
+        (firstWords (t .rows)) (initialByte e b) first-long (first-bit (visibleAt (load .processor) (b / 8)) (omega (arith, line-low, processor-low)) (omega (arith, line-low)))
+        ∙ ap (λ (l : List (ℕ × ℕ)). bit (lastByte l (initialByte e b) xs) k) (sym (map-map (λ w. (w .rv, w .wrote)) _ (keep (λ w. accesses w b) (stores e))))
+
+    own-bit : bit (getD words (ownWord (t .rows) x) 0) i ≡ bit (lastByte (map (λ w. (w .lv, w .wrote)) (keep (λ w. w .own) (sight .writers))) (sight .initial) xs) k
+    unfolding sightOf
+    own-bit =
+        ap (λ (c : ℕ). bit (getD words c 0) i) own-word
+        ∙ words-are (t .rows) _ (ownAt (load .processor) (b / 8)) i k (omega (arith, line-low, processor-low)) xs
+        (λ o m. own-does h accepted (load .processor) b k i few (its .there) at bits o (distinct-in (operations e) [] xs apart m))
+        (firstWords (t .rows)) (initialByte e b) first-long (first-bit (ownAt (load .processor) (b / 8)) (omega (arith, line-low, processor-low)) (omega (arith, line-low)))
+        ∙ ap (λ (l : List (ℕ × ℕ)). bit (lastByte l (initialByte e b) xs) k)
+        (sym (ap (map (λ w. (w .lv, w .wrote))) (keep-map (λ w. w .own) _ (keep (λ w. accesses w b) (stores e))) ∙ map-map (λ w. (w .lv, w .wrote)) _ (keep (λ w. eqb (w .processor) (load .processor)) (keep (λ w. accesses w b) (stores e)))))
+
+    -- a store of the own processor whose LV stands and whose RV does not
+    abbrev pends : Instruction → Bool
+    pends w = eqb (w .processor) (load .processor) && (member xs (numberOf w LV) && not (member xs (numberOf w (RV (load .processor)))))
+
+    local-any : any (λ w. w .own && (member xs (w .lv) && missing e x xs (w .rv))) (sight .writers) ≡ any (λ w. accesses w b && pends w) (stores e)
+    unfolding sightOf
+    local-any =
+        any-map (λ w. w .own && (member xs (w .lv) && not (member xs (w .rv)))) _ (keep (λ w. accesses w b) (stores e))
+        ∙ any-keep pends (λ w. accesses w b) (stores e)
+
+    abbrev bypassAt : ℕ → ℕ → Bool
+    bypassAt v m = bypassOf (t .execution) (t .operations) (t .marks) x v m
+
+    bypass-is : (v m : ℕ) → bypassAt v m
+        ≡ (isStore (instruction v .kind) && (eqb (instruction v .processor) (load .processor) && eqb (instruction v .address / 8) (load .address / 8))
+        && eqb m (1 + instruction v .first + instruction v .processor))
+    unfolding instructionAt
+    bypass-is v m = rw (eq-eqb role 0 reads) refl
+
+    is-member : (o : ℕ) → o < operations e → holds lo hi o ≡ member xs o
+    is-member o l = standing o (omega (arith, accepted .operations-few))
+
+    -- store v of the own processor, by its own RV
+    module _ (v : ℕ) (lv : v < t .execution .instructions .count) (sv : isStore (instruction v .kind) ≡ true) (own : instruction v .processor ≡ load .processor) where
+      mv : List·Memᴰ (instruction v) (stores e)
+      unfolding stores
+      mv = in-keep (λ i. isStore (i .kind)) (numbered-in t v lv) sv
+
+      abbrev m : ℕ
+      m = 1 + instruction v .first + instruction v .processor
+
+      rv : IsRV h accepted (instruction v) (instruction v .processor) m
+      rv = is-RV h accepted mv (instruction v .processor) (store-processor e accepted mv) m (omega arith)
+
+      first-low : instruction v .first < operations e
+      first-low = omega (arith, rv .low)
+
+      wrote-bit : instruction v .address / 8 ≡ b / 8 → bit (writtenBits (t .rows) m) i ≡ accesses (instruction v) b
+      wrote-bit line =
+          h .rowed m (rv .low) .writes-bits i small
+          ∙ ap (λ (u : Bool). u && covers (t .execution) (getD (t .operations .owners) m 0) i) (RV-writes (getD (t .operations .roles) m 0) (omega (arith, rv .role-is)))
+          ∙ covers-is (t .execution) accepted (getD (t .operations .owners) m 0) b i (sym line ∙ ap (λ (w : Instruction). w .address / 8) (rv .owner-is)) at
+          ∙ ap (λ (w : Instruction). accesses w b) (sym (rv .owner-is))
+
+      stands-local : (ltb (localOf (t .rows) m) 128 && holds lo hi (localOf (t .rows) m)) ≡ member xs (numberOf (instruction v) LV)
+      stands-local =
+          ap (λ (o : ℕ). ltb o 128 && holds lo hi o) (rv .local)
+          ∙ ap₂ _&&_ (lt-ltb (instruction v .first) 128 (omega (arith, first-low, accepted .operations-few))) (is-member (instruction v .first) first-low)
+
+      absent : not (holds lo hi m) ≡ not (member xs (numberOf (instruction v) (RV (load .processor))))
+      absent = ap not (is-member m (rv .low) ∙ ap (member xs) (omega (arith, own)))
+
+    local-is : localBit (t .rows) lo hi x i ≡ any (λ w. w .own && (member xs (w .lv) && missing e x xs (w .rv))) (sight .writers)
+    unfolding localBit pending
+    local-is =
+        agree (anyBelow 128 (λ m. pending (t .rows) lo hi x m && bit (writtenBits (t .rows) m) i)) (any (λ w. accesses w b && pends w) (stores e))
+        (λ a.
+        let (m, s, k) = some-at _ 128 a in
+        let (k1, wrote) = and-parts (bypasses (t .rows) x m && not (holds lo hi m) && (ltb (localOf (t .rows) m) 128 && holds lo hi (localOf (t .rows) m))) (bit (writtenBits (t .rows) m) i) k in
+        let (k2, stands) = and-parts (bypasses (t .rows) x m && not (holds lo hi m)) (ltb (localOf (t .rows) m) 128 && holds lo hi (localOf (t .rows) m)) k1 in
+        let (k3, gone) = and-parts (bypasses (t .rows) x m) (not (holds lo hi m)) k2 in
+        let (v, l, r) = some-at (λ u. bypassAt u m) (t .execution .instructions .count) (sym (h .rowed x low .bypasses-are m s) ∙ k3) in
+        from v m l (sym (bypass-is v m) ∙ r) gone stands wrote)
+        (λ a. let (w, mw, k) = any-witness _ (stores e) a in to w mw k)
+        ∙ sym local-any
+      where
+        from : (v m : ℕ) → v < t .execution .instructions .count
+            → (isStore (instruction v .kind) && (eqb (instruction v .processor) (load .processor) && eqb (instruction v .address / 8) (load .address / 8))
+            && eqb m (1 + instruction v .first + instruction v .processor)) ≡ true
+            → not (holds lo hi m) ≡ true → (ltb (localOf (t .rows) m) 128 && holds lo hi (localOf (t .rows) m)) ≡ true → bit (writtenBits (t .rows) m) i ≡ true
+            → any (λ w. accesses w b && pends w) (stores e) ≡ true
+        from v m l r gone stands wrote =
+            let (r0, r5) = and-parts (isStore (instruction v .kind) && (eqb (instruction v .processor) (load .processor) && eqb (instruction v .address / 8) (load .address / 8))) (eqb m (1 + instruction v .first + instruction v .processor)) r in
+            let (sv, r1) = and-parts (isStore (instruction v .kind)) (eqb (instruction v .processor) (load .processor) && eqb (instruction v .address / 8) (load .address / 8)) r0 in
+            let (r2, r4) = and-parts (eqb (instruction v .processor) (load .processor)) (eqb (instruction v .address / 8) (load .address / 8)) r1 in
+            let own = eqb-true (instruction v .processor) (load .processor) r2 in
+            let line : instruction v .address / 8 ≡ b / 8 = eqb-true (instruction v .address / 8) (load .address / 8) r4 ∙ sym (its .one-line) in
+            let is : m ≡ 1 + instruction v .first + instruction v .processor = eqb-true m (1 + instruction v .first + instruction v .processor) r5 in
+            any-member _ (mv v l sv own)
+            (and-both (sym (wrote-bit v l sv own line) ∙ ap (λ (o : ℕ). bit (writtenBits (t .rows) o) i) (sym is) ∙ wrote)
+            (and-both r2 (and-both (sym (stands-local v l sv own) ∙ ap (λ (o : ℕ). ltb (localOf (t .rows) o) 128 && holds lo hi (localOf (t .rows) o)) (sym is) ∙ stands)
+            (sym (absent v l sv own) ∙ ap (λ (o : ℕ). not (holds lo hi o)) (sym is) ∙ gone))))
+
+        to : (w : Instruction) → List·Memᴰ w (stores e) → (accesses w b && pends w) ≡ true
+            → anyBelow 128 (λ m. bypasses (t .rows) x m && not (holds lo hi m) && (ltb (localOf (t .rows) m) 128 && holds lo hi (localOf (t .rows) m)) && bit (writtenBits (t .rows) m) i) ≡ true
+        to w mw k =
+            let (iw, sw) = is-store e mw in
+            let (v, l, q) = by-number t iw in
+            let (k1, k2) = and-parts (accesses w b) (pends w) k in
+            let (k3, k4) = and-parts (eqb (w .processor) (load .processor)) _ k2 in
+            let (k5, k6) = and-parts (member xs (numberOf w LV)) (not (member xs (numberOf w (RV (load .processor))))) k4 in
+            let sv = ap (λ (u : Instruction). isStore (u .kind)) q ∙ sw in
+            let own : instruction v .processor ≡ load .processor = ap (λ (u : Instruction). u .processor) q ∙ eqb-true (w .processor) (load .processor) k3 in
+            let reach = ap (λ (u : Instruction). accesses u b) q ∙ k1 in
+            let line : instruction v .address / 8 ≡ b / 8 = sym (accesses-within (t .execution) accepted v b (numbered-in t v l) reach .one-line) in
+            let o = m v l sv own in
+            let o-low : o < 128 = omega (arith, rv v l sv own .low, accepted .operations-few) in
+            any-passes _ 128 o o-low
+            (and-both (and-both (and-both
+            (h .rowed x low .bypasses-are o o-low
+            ∙ any-passes (λ u. bypassAt u o) (t .execution .instructions .count) v l
+            (bypass-is v o ∙ and-both (and-both sv (and-both (eq-eqb (instruction v .processor) (load .processor) own) (eq-eqb (instruction v .address / 8) (load .address / 8) (line ∙ its .one-line)))) (eq-eqb o o refl)))
+            (absent v l sv own ∙ ap (λ (u : Instruction). not (member xs (numberOf u (RV (load .processor))))) q ∙ k6))
+            (stands-local v l sv own ∙ ap (λ (u : Instruction). member xs (numberOf u LV)) q ∙ k5))
+            (wrote-bit v l sv own line ∙ reach))
+
+    -- the bit that is seen is the byte's that rule 11 gives
+    pub seen-bit : cond (localBit (t .rows) lo hi x i) (bit (getD words (ownWord (t .rows) x) 0) i) (bit (getD words (visibleWord (t .rows) x) 0) i) ≡ bit (byteNow e x xs sight) k
+    unfolding byteNow
+    seen-bit =
+        ap (λ (u : Bool). cond u (bit (getD words (ownWord (t .rows) x) 0) i) (bit (getD words (visibleWord (t .rows) x) 0) i)) local-is
+        ∙ ap₂ (cond (any (λ w. w .own && (member xs (w .lv) && missing e x xs (w .rv))) (sight .writers))) own-bit visible-bit
+        ∙ by (any (λ w. w .own && (member xs (w .lv) && missing e x xs (w .rv))) (sight .writers)) _ _
+      where
+        by : (u : Bool) (a c : ℕ) → cond u (bit a k) (bit c k) ≡ bit (cond u a c) k
+        by true a c = refl
+        by false a c = refl
+
+    -- and so is the recorded one
+    pub recorded-bit : bit (readData (t .rows) x) i ≡ bit (byteSeen load b) k
+    recorded-bit =
+        h .rowed x low .reads-data i small ∙ ap (λ (u : Bool). u && dataBit (t .execution) owner i) (eq-eqb role 0 reads)
+        ∙ data-is (t .execution) accepted owner b i k its reads-b at bits
+
+    pub read-bit : bit (readBits (t .rows) x) i ≡ true
+    read-bit =
+        h .rowed x low .reads-bits i small ∙ ap (λ (u : Bool). u && covers (t .execution) owner i) (eq-eqb role 0 reads)
+        ∙ covers-is (t .execution) accepted owner b i (its .one-line) at ∙ reads-b
+
+  -- a byte that rule 11 gives is below 256
+  now-small : (b : ℕ) → accesses load b ≡ true → byteNow e x xs (sightOf e load b) < 256
+  unfolding byteNow sightOf
+  now-small b reads-b =
+      by (any (λ w. w .own && (member xs (w .lv) && missing e x xs (w .rv))) writers)
+      (last-below (map (λ w. (w .lv, w .wrote)) (keep (λ w. w .own) writers))
+      (λ w m. let (u, mu, q) = Memᴰ·of-map (λ w. (w .lv, w .wrote)) (keep (λ w. w .own) writers) m in subst (λ (p : ℕ × ℕ). p .1 < 256) q (wrote u (of-keep (λ w. w .own) writers mu .0))) xs (initialByte e b) initial)
+      (last-below (map (λ w. (w .rv, w .wrote)) writers)
+      (λ w m. let (u, mu, q) = Memᴰ·of-map (λ w. (w .rv, w .wrote)) writers m in subst (λ (p : ℕ × ℕ). p .1 < 256) q (wrote u mu)) xs (initialByte e b) initial)
+    where
+      writers : List Writer
+      writers = sightOf e load b .writers
+
+      initial : initialByte e b < 256
+      initial = subst (λ (v : ℕ). v < 256) (sym (initial-at (t .execution) accepted b (accesses-within (t .execution) accepted owner b here reads-b .there))) (h .initial-bytes b)
+
+      wrote : (u : Writer) → List·Memᴰ u writers → u .wrote < 256
+      wrote u mu =
+          let (w, mw, q) = Memᴰ·of-map _ (keep (λ w. accesses w b) (stores e)) mu in
+          let (ms, reach) = of-keep (λ w. accesses w b) (stores e) mw in
+          let (v, l, r) = by-number t (is-store e ms .0) in
+          subst (λ (z : Writer). z .wrote < 256) q (subst (λ (i : Instruction). byteWritten i b < 256) r
+          (byte-small (t .execution) accepted (h .data-bytes) v b (accesses-within (t .execution) accepted v b (numbered-in t v l) (ap (λ (i : Instruction). accesses i b) r ∙ reach))))
+
+      by : (u : Bool) {a c : ℕ} → a < 256 → c < 256 → cond u a c < 256
+      by true p q = p
+      by false p q = q
+
+  -- the bit of the line for bit k of byte b
+  abbrev bitOf : ℕ → ℕ → ℕ
+  bitOf b k = 8 * (b % 8) + k
+
+  -- each bit that x reads is as recorded
+  abbrev seenAt : ℕ → Bool
+  seenAt i = cond (localBit (t .rows) lo hi x i) (bit (getD words (ownWord (t .rows) x) 0) i) (bit (getD words (visibleWord (t .rows) x) 0) i)
+
+  abbrev agrees : ℕ → Bool
+  agrees i = not (bit (readBits (t .rows) x) i) || same (seenAt i) (bit (readData (t .rows) x) i)
+
+  agrees-read : (i : ℕ) → bit (readBits (t .rows) x) i ≡ true → agrees i ≡ same (seenAt i) (bit (readData (t .rows) x) i)
+  agrees-read i r = ap (λ (u : Bool). not u || same (seenAt i) (bit (readData (t .rows) x) i)) r
+
+  -- then each byte is
+  byte-agrees : role ≡ 0 → allBelow 64 agrees ≡ true → (b : ℕ) → accesses load b ≡ true → byteNow e x xs (sightOf e load b) ≡ byteSeen load b
+  byte-agrees reads all b reads-b =
+      same-byte (byteNow e x xs (sightOf e load b)) (byteSeen load b) (now-small b reads-b)
+      (byte-small (t .execution) accepted (h .data-bytes) owner b (accesses-within (t .execution) accepted owner b here reads-b))
+      (λ k l.
+      let i = bitOf b k in
+      let at : i / 8 ≡ b % 8 = omega arith in
+      let bits : i % 8 ≡ k = omega arith in
+      sym (seen-bit reads b k i reads-b at bits)
+      ∙ same-true (seenAt i) (bit (readData (t .rows) x) i) (sym (agrees-read i (read-bit reads b k i reads-b at bits)) ∙ all-at agrees 64 all i (omega arith))
+      ∙ recorded-bit reads b k i reads-b at bits)
+
+  seen-is : (b : ℕ) → sightOf e load b .seen ≡ byteSeen load b
+  unfolding sightOf
+  seen-is b = refl
+
+  refutes : role ≡ 0 → allBelow 64 agrees ≡ true → (b : ℕ) → accesses load b ≡ true → unseen e x xs (sightOf e load b) ≡ true → ⊥
+  refutes reads all b reads-b un =
+      clash un (ap not (eq-eqb (byteNow e x xs (sightOf e load b)) (sightOf e load b .seen) (byte-agrees reads all b reads-b ∙ sym (seen-is b))))
+
+  -- a byte that is as recorded
+  seen-in : role ≡ 0 → (b : ℕ) → accesses load b ≡ true → any (unseen e x xs) (sights e x) ≡ false → byteNow e x xs (sightOf e load b) ≡ byteSeen load b
+  unfolding sights loads
+  seen-in reads b reads-b none =
+      let is-load : isLoad (load .kind) ≡ true = R-load (e .processors) (load .kind) (subst (λ (r : Role). List·Memᴰ r (roles (e .processors) (load .kind))) (role-R role reads) (role-in h accepted x low)) in
+      let number : x ≡ numberOf load R = sym (number-is h accepted x low) ∙ ap (numberOf load) (role-R role reads) in
+      split (eqb (byteNow e x xs (sightOf e load b)) (sightOf e load b .seen))
+      (λ q. eqb-true _ _ q ∙ seen-is b)
+      (λ q. clash
+      (any-for (unseen e x xs) (loads e) _
+      ∙ any-member _ (in-keep (λ i. isLoad (i .kind)) here is-load)
+      (any-when (unseen e x xs) (eqb x (numberOf load R)) (map (sightOf e load) (addresses load))
+      ∙ and-both (eq-eqb x (numberOf load R) number)
+      (any-map (unseen e x xs) (sightOf e load) (addresses load) ∙ any-member _ (in-reach load b reads-b) (ap not q)))) none)
+
+  read-agrees : (i : ℕ) → i < 64 → bit (readBits (t .rows) x) i ≡ true → any (unseen e x xs) (sights e x) ≡ false → agrees i ≡ true
+  unfolding covers instructionAt
+  read-agrees i l r none =
+      let (r1, r2) = and-parts (eqb role 0) (covers (t .execution) owner i) (sym (h .rowed x low .reads-bits i l) ∙ r) in
+      let reads : role ≡ 0 = eqb-true role 0 r1 in
+      let b = 8 * (load .address / 8) + i / 8 in
+      let at : i / 8 ≡ b % 8 = omega arith in
+      agrees-read i r
+      ∙ same-refl (seenAt i) (bit (readData (t .rows) x) i)
+      (seen-bit reads b (i % 8) i r2 at refl ∙ ap (λ (v : ℕ). bit v (i % 8)) (seen-in reads b r2 none) ∙ sym (recorded-bit reads b (i % 8) i r2 at refl))
+
+  pub sees-is : sees (t .rows) lo hi words x ≡ not (any (unseen e x xs) (sights e x))
+  unfolding sees sights
+  sees-is =
+      agree (allBelow 64 agrees) (not (any (unseen e x xs) (sights e x)))
+      (λ all. ap not (is-false (any (unseen e x xs) (sights e x)) (λ u.
+      let (l, ml, k) = any-witness _ (loads e) (sym (any-for (unseen e x xs) (loads e) _) ∙ u) in
+      let (k1, k2) = and-parts (eqb x (numberOf l R)) (any (unseen e x xs) (map (sightOf e l) (addresses l))) (sym (any-when (unseen e x xs) (eqb x (numberOf l R)) (map (sightOf e l) (addresses l))) ∙ k) in
+      let (il, sl) = is-load e ml in
+      let (is-it, is-R) = owner-is h accepted x low il (R-role (e .processors) (l .kind) sl) (eqb-true x (numberOf l R) k1) in
+      let (b, mb, un) = any-witness _ (addresses l) (sym (any-map (unseen e x xs) (sightOf e l) (addresses l)) ∙ k2) in
+      refutes (number-R role (sym is-R)) all b (of-reach load b (subst (λ (i : Instruction). List·Memᴰ b (addresses i)) is-it mb)) (ap (λ (i : Instruction). unseen e x xs (sightOf e i b)) (sym is-it) ∙ un))))
+      (λ none. all-below agrees 64 (λ i l.
+      split (bit (readBits (t .rows) x) i) (λ r. read-agrees i l r (not-true (any (unseen e x xs) (sights e x)) none))
+      (λ r. ap (λ (u : Bool). not u || same (seenAt i) (bit (readData (t .rows) x) i)) r)))

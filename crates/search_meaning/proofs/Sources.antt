@@ -1,0 +1,282 @@
+-- Which operations write a byte of memory: the RVs to a processor, and the LVs of its own stores.
+use Prim.Native.Nat.{ℕ, zero, suc, _+_, _*_, _-_, _/_, _%_, _≤_, _<_}
+use native.Mathlib.Omega.{arith}
+use mathlib.Core.Path.{_≡_, refl, sym, ap, ap₂, _∙_, subst}
+use mathlib.Core.Bool.{Bool, true, false, cond, _&&_, _||_}
+use mathlib.Core.List.{List, map, List·Memᴰ, List·Memᴰ·eq-of-singleton, Memᴰ·of-map}
+use lib.ListN.{length, getD}
+use lib.Dec.{eqb, leb}
+use borrow.Author.Tests.{eq-eqb, ne-eqb, eqb-true, leb-true}
+use Rattle.base.specs.Lists.{any, keep}
+use Rattle.base.specs.Bits.{bit}
+use Rattle.base.proofs.Bools.{agree, split, clash, is-false, and-parts, and-both}
+use Rattle.base.proofs.Lists.{any-witness, any-member, any-map, any-keep, of-keep, in-keep}
+use Rattle.model.specs.Execution as model
+use Rattle.model.specs.Execution.{Kind, ld, ld-acq, st, st-rel, mf, Instruction, Role, LV, RV, isStore, roles, numberOf, stores, operations}
+use Rattle.model.specs.Rules.{accesses, byteWritten}
+use Rattle.model.proofs.Accepted.{Accepted, Sound}
+use Rattle.record_decoded.specs.Kinds.{roleNumbered}
+use Rattle.record_decoded.specs.Decoded.{instructionAt, executionOf}
+use Rattle.search_admit.specs.Rows.{writtenBits, writtenData, writtenWord, visibleAt, ownAt, covers, dataBit, writes}
+use Rattle.search_reduction.proofs.Apart.{each-in, is-store, LV-role, RV-role}
+use Rattle.search_meaning.proofs.Tables.{Tables, Holds}
+use Rattle.search_meaning.proofs.Owners.{number-RV, role-RV, role-in, owner-in, owner-is, number-is}
+use Rattle.search_meaning.proofs.Demands.{role-few}
+use Rattle.search_meaning.proofs.OperationRows.{RV-writes}
+use Rattle.search_meaning.proofs.Bytes.{accesses-within, covers-is, data-is}
+use Rattle.search_meaning.proofs.Words.{byte-is, Does}
+
+-- roles by their numbers
+number-LV : (k : ℕ) → roleNumbered k ≡ LV → k ≡ 1
+number-LV zero h = let z : _≡_ {A = ℕ} 0 1 = cc in absurd (omega arith)
+number-LV (suc zero) h = refl
+number-LV (suc (suc zero)) h = let z : _≡_ {A = ℕ} 0 1 = cc in absurd (omega arith)
+number-LV (suc (suc (suc q))) h = let z : _≡_ {A = ℕ} 0 1 = cc in absurd (omega arith)
+
+role-LV : (k : ℕ) → k ≡ 1 → roleNumbered k ≡ LV
+role-LV k h = ap roleNumbered h
+
+-- what writes is an LV or an RV
+writes-role : (k : ℕ) → writes k ≡ true → (k ≡ 1 → ⊥) → 3 ≤ k
+writes-role k h other = split (leb 3 k) (λ l. leb-true 3 k l) (λ l. clash h (ap₂ _||_ (ne-eqb k 1 other) l))
+
+-- an LV or an RV is a store's
+LV-store : (p : ℕ) (k : Kind) → List·Memᴰ LV (roles p k) → isStore k ≡ true
+unfolding roles
+LV-store p ld m = let z : _≡_ {A = ℕ} 0 1 = (let w = List·Memᴰ·eq-of-singleton m in cc) in absurd (omega arith)
+LV-store p ld-acq m = let z : _≡_ {A = ℕ} 0 1 = (let w = List·Memᴰ·eq-of-singleton m in cc) in absurd (omega arith)
+LV-store p st m = refl
+LV-store p st-rel m = refl
+LV-store p mf m = let z : _≡_ {A = ℕ} 0 1 = (let w = List·Memᴰ·eq-of-singleton m in cc) in absurd (omega arith)
+
+RV-store : (p q : ℕ) (k : Kind) → List·Memᴰ (RV q) (roles p k) → isStore k ≡ true
+unfolding roles
+RV-store p q ld m = let z : _≡_ {A = ℕ} 0 1 = (let w = List·Memᴰ·eq-of-singleton m in cc) in absurd (omega arith)
+RV-store p q ld-acq m = let z : _≡_ {A = ℕ} 0 1 = (let w = List·Memᴰ·eq-of-singleton m in cc) in absurd (omega arith)
+RV-store p q st m = refl
+RV-store p q st-rel m = refl
+RV-store p q mf m = let z : _≡_ {A = ℕ} 0 1 = (let w = List·Memᴰ·eq-of-singleton m in cc) in absurd (omega arith)
+
+module _ {t : Tables} (h : Holds t) (accepted : Accepted (executionOf (t .execution))) where
+  abbrev e : model.Execution
+  e = executionOf (t .execution)
+
+  abbrev instruction : ℕ → Instruction
+  instruction i = instructionAt (t .execution .instructions) i
+
+  -- byte b, its bit k, as bit i of its line's word; processor p
+  module _ (p b k i : ℕ) (few : p < e .processors) (there : b < 8 * length (e .lines)) (at : i / 8 ≡ b % 8) (bits : i % 8 ≡ k) (o : ℕ) (low : o < operations e) where
+    abbrev owner : ℕ
+    owner = getD (t .operations .owners) o 0
+
+    abbrev role : ℕ
+    role = getD (t .operations .roles) o 0
+
+    abbrev its : Instruction
+    its = instruction owner
+
+    abbrev its-line : ℕ
+    its-line = its .address / 8
+
+    small : i < 64
+    small = omega (arith, at)
+
+    line-low : b / 8 < 8
+    line-low = omega (arith, there, accepted .lines-few)
+
+    here : List·Memᴰ its (e .instructions)
+    here = owner-in h accepted o low
+
+    its-role : List·Memᴰ (roleNumbered role) (roles (e .processors) (its .kind))
+    its-role = role-in h accepted o low
+
+    own-low : its .processor < 8
+    own-low = omega (arith, each-in (Sound (e .processors) (length (e .lines))) (accepted .sound) here .own, accepted .processors-few)
+
+    -- where a bit of its line is one of its bytes', the line is one of eight
+    covered : covers (t .execution) owner i ≡ true → its-line < 8
+    unfolding covers instructionAt
+    covered c = omega (arith, accesses-within (t .execution) accepted owner _ here c .there, accepted .lines-few)
+
+    bits-are : bit (writtenBits (t .rows) o) i ≡ (writes role && covers (t .execution) owner i)
+    bits-are = h .rowed o low .writes-bits i small
+
+    data-are : bit (writtenData (t .rows) o) i ≡ (writes role && dataBit (t .execution) owner i)
+    data-are = h .rowed o low .writes-data i small
+
+    abbrev wordAt : ℕ → ℕ
+    wordAt r = cond (eqb r 1) (ownAt (its .processor) its-line) (visibleAt (r - 3) its-line)
+
+    word-is : writes role ≡ true → writtenWord (t .rows) o ≡ wordAt role % 128
+    unfolding instructionAt
+    word-is w = ap (λ (v : ℕ). v % 128) (h .rowed o low .writes-word w)
+
+    word-LV : role ≡ 1 → writtenWord (t .rows) o ≡ ownAt (its .processor) its-line % 128
+    word-LV r = word-is (rw r refl) ∙ ap (λ (j : ℕ). wordAt j % 128) r
+
+    word-RV : 3 ≤ role → writtenWord (t .rows) o ≡ visibleAt (role - 3) its-line % 128
+    word-RV r = word-is (RV-writes role r) ∙ ap (λ (u : Bool). cond u (ownAt (its .processor) its-line) (visibleAt (role - 3) its-line) % 128) (ne-eqb role 1 (λ z. omega arith))
+
+    remote-low : 3 ≤ role → role - 3 < 8
+    remote-low r =
+        omega (arith, accepted .processors-few, role-few (its .kind) (subst (λ (s : Role). List·Memᴰ s (roles (e .processors) (its .kind))) (role-RV role r) its-role))
+
+    -- what is written, where a test of the operation says that it writes this byte to word c
+    module _ (c : ℕ) (wanted : Bool)
+        (match : wanted ≡ true → (writes role ≡ true) × (its-line < 8 → its-line ≡ b / 8 → writtenWord (t .rows) o ≡ c))
+        (matched : writes role ≡ true → its-line < 8 → writtenWord (t .rows) o ≡ c → (wanted ≡ true) × (its-line ≡ b / 8)) where
+      abbrev hit : Bool
+      hit = wanted && accesses its b
+
+      touches : (eqb (writtenWord (t .rows) o) c && bit (writtenBits (t .rows) o) i) ≡ hit
+      touches =
+          agree (eqb (writtenWord (t .rows) o) c && bit (writtenBits (t .rows) o) i) hit
+          (λ u.
+          let (u1, u2) = and-parts (eqb (writtenWord (t .rows) o) c) (bit (writtenBits (t .rows) o) i) u in
+          let (u3, u4) = and-parts (writes role) (covers (t .execution) owner i) (sym bits-are ∙ u2) in
+          let (m1, m2) = matched u3 (covered u4) (eqb-true (writtenWord (t .rows) o) c u1) in
+          and-both m1 (sym (covers-is (t .execution) accepted owner b i (sym m2) at) ∙ u4))
+          (λ u.
+          let (u1, u2) = and-parts wanted (accesses its b) u in
+          let (m1, m2) = match u1 in
+          let in-line = accesses-within (t .execution) accepted owner b here u2 in
+          let cover = covers-is (t .execution) accepted owner b i (in-line .one-line) at ∙ u2 in
+          and-both (eq-eqb (writtenWord (t .rows) o) c (m2 (covered cover) (sym (in-line .one-line)))) (bits-are ∙ and-both m1 cover))
+
+      leaves : hit ≡ false → (eqb (writtenWord (t .rows) o) c && bit (writtenData (t .rows) o) i) ≡ false
+      unfolding dataBit
+      leaves miss = is-false _ (λ u.
+          let (u1, u2) = and-parts (eqb (writtenWord (t .rows) o) c) (bit (writtenData (t .rows) o) i) u in
+          let (u3, u4) = and-parts (writes role) (dataBit (t .execution) owner i) (sym data-are ∙ u2) in
+          let (u5, u6) = and-parts (covers (t .execution) owner i) _ u4 in
+          clash (sym touches ∙ and-both u1 (bits-are ∙ and-both u3 u5)) miss)
+
+      puts : hit ≡ true → bit (writtenData (t .rows) o) i ≡ bit (byteWritten its b) k
+      puts u =
+          let (u1, u2) = and-parts wanted (accesses its b) u in
+          data-are ∙ ap (λ (v : Bool). v && dataBit (t .execution) owner i) (match u1 .0)
+          ∙ data-is (t .execution) accepted owner b i k (accesses-within (t .execution) accepted owner b here u2) u2 at bits
+
+    its-store : isStore (its .kind) ≡ true → List·Memᴰ its (stores e)
+    unfolding stores
+    its-store s = in-keep (λ i. isStore (i .kind)) here s
+
+    -- the stores to the byte, as they become visible to p
+    abbrev visibly : List (ℕ × ℕ)
+    visibly = map (λ w. (numberOf w (RV p), byteWritten w b)) (keep (λ w. accesses w b) (stores e))
+
+    visible-one : {w : Instruction} → List·Memᴰ w (stores e) → numberOf w (RV p) ≡ o → (w ≡ its) × (role ≡ 3 + p)
+    visible-one {w} mw q =
+        let (iw, sw) = is-store e mw in
+        let (same, r) = owner-is h accepted o low iw (RV-role (e .processors) (w .kind) p few sw) (sym q) in
+        (same, number-RV role p (sym r))
+
+    visible-any : any (λ w. eqb (w .0) o) visibly ≡ (eqb role (3 + p) && accesses its b)
+    visible-any =
+        any-map (λ w. eqb (w .0) o) (λ w. (numberOf w (RV p), byteWritten w b)) (keep (λ w. accesses w b) (stores e))
+        ∙ any-keep (λ w. eqb (numberOf w (RV p)) o) (λ w. accesses w b) (stores e)
+        ∙ agree (any (λ w. accesses w b && eqb (numberOf w (RV p)) o) (stores e)) (eqb role (3 + p) && accesses its b)
+        (λ a.
+        let (w, mw, k) = any-witness _ (stores e) a in
+        let (k1, k2) = and-parts (accesses w b) (eqb (numberOf w (RV p)) o) k in
+        let (same, r) = visible-one mw (eqb-true (numberOf w (RV p)) o k2) in
+        and-both (eq-eqb role (3 + p) r) (ap (λ (u : Instruction). accesses u b) (sym same) ∙ k1))
+        (λ a.
+        let (k1, k2) = and-parts (eqb role (3 + p)) (accesses its b) a in
+        let r : role ≡ 3 + p = eqb-true role (3 + p) k1 in
+        let is-it : roleNumbered role ≡ RV p = role-RV role (omega arith) ∙ ap RV (let z : role - 3 ≡ p = omega arith in z) in
+        any-member _ (its-store (RV-store (e .processors) p (its .kind) (subst (λ (s : Role). List·Memᴰ s (roles (e .processors) (its .kind))) is-it its-role)))
+        (and-both k2 (eq-eqb (numberOf its (RV p)) o (ap (numberOf its) (sym is-it) ∙ number-is h accepted o low))))
+
+    pub visible-does : Does (t .rows) visibly (visibleAt p (b / 8)) i k o
+    visible-does = record {
+      hit = eqb role (3 + p) && accesses its b;
+      byte = byteWritten its b;
+      touches = touches (visibleAt p (b / 8)) (eqb role (3 + p)) match matched;
+      leaves = leaves (visibleAt p (b / 8)) (eqb role (3 + p)) match matched;
+      puts = puts (visibleAt p (b / 8)) (eqb role (3 + p)) match matched;
+      gives = λ d. byte-is visibly o (byteWritten its b) d each ∙ ap (λ (u : Bool). cond u (byteWritten its b) d) visible-any;
+    }
+      where
+        match : eqb role (3 + p) ≡ true → (writes role ≡ true) × (its-line < 8 → its-line ≡ b / 8 → writtenWord (t .rows) o ≡ visibleAt p (b / 8))
+        match u =
+            let r : role ≡ 3 + p = eqb-true role (3 + p) u in
+            (RV-writes role (omega arith), λ l q. word-RV (omega arith) ∙ (let z : visibleAt (role - 3) its-line % 128 ≡ visibleAt p (b / 8) = omega (arith, few, accepted .processors-few) in z))
+
+        matched : writes role ≡ true → its-line < 8 → writtenWord (t .rows) o ≡ visibleAt p (b / 8) → (eqb role (3 + p) ≡ true) × (its-line ≡ b / 8)
+        matched w l q =
+            split (eqb role 1)
+            (λ r. absurd (omega (arith, few, accepted .processors-few, line-low, own-low, sym (word-LV (eqb-true role 1 r)) ∙ q)))
+            (λ r.
+            let far = writes-role role w (λ z. clash (eq-eqb role 1 z) r) in
+            let z = sym (word-RV far) ∙ q in
+            (eq-eqb role (3 + p) (omega (arith, few, accepted .processors-few, line-low, remote-low far, z)), omega (arith, few, accepted .processors-few, line-low, remote-low far, z)))
+
+        each : (w : ℕ × ℕ) → List·Memᴰ w visibly → w .0 ≡ o → w .1 ≡ byteWritten its b
+        each w m q =
+            let (v, mv, s) = Memᴰ·of-map (λ u. (numberOf u (RV p), byteWritten u b)) (keep (λ u. accesses u b) (stores e)) m in
+            let (same, r) = visible-one (of-keep (λ u. accesses u b) (stores e) mv .0) (ap (λ (u : ℕ × ℕ). u .0) s ∙ q) in
+            ap (λ (u : ℕ × ℕ). u .1) (sym s) ∙ ap (λ (u : Instruction). byteWritten u b) same
+
+    -- p's own stores to the byte, as it does them
+    abbrev ownly : List (ℕ × ℕ)
+    ownly = map (λ w. (numberOf w LV, byteWritten w b)) (keep (λ w. eqb (w .processor) p) (keep (λ w. accesses w b) (stores e)))
+
+    own-one : {w : Instruction} → List·Memᴰ w (stores e) → numberOf w LV ≡ o → (w ≡ its) × (role ≡ 1)
+    own-one {w} mw q =
+        let (iw, sw) = is-store e mw in
+        let (same, r) = owner-is h accepted o low iw (LV-role (e .processors) (w .kind) sw) (sym q) in
+        (same, number-LV role (sym r))
+
+    own-any : any (λ w. eqb (w .0) o) ownly ≡ (eqb role 1 && eqb (its .processor) p && accesses its b)
+    own-any =
+        any-map (λ w. eqb (w .0) o) (λ w. (numberOf w LV, byteWritten w b)) (keep (λ w. eqb (w .processor) p) (keep (λ w. accesses w b) (stores e)))
+        ∙ any-keep (λ w. eqb (numberOf w LV) o) (λ w. eqb (w .processor) p) (keep (λ w. accesses w b) (stores e))
+        ∙ any-keep (λ w. eqb (w .processor) p && eqb (numberOf w LV) o) (λ w. accesses w b) (stores e)
+        ∙ agree (any (λ w. accesses w b && (eqb (w .processor) p && eqb (numberOf w LV) o)) (stores e)) (eqb role 1 && eqb (its .processor) p && accesses its b)
+        (λ a.
+        let (w, mw, k) = any-witness _ (stores e) a in
+        let (k1, k2) = and-parts (accesses w b) (eqb (w .processor) p && eqb (numberOf w LV) o) k in
+        let (k3, k4) = and-parts (eqb (w .processor) p) (eqb (numberOf w LV) o) k2 in
+        let (same, r) = own-one mw (eqb-true (numberOf w LV) o k4) in
+        and-both (and-both (eq-eqb role 1 r) (ap (λ (u : Instruction). eqb (u .processor) p) (sym same) ∙ k3)) (ap (λ (u : Instruction). accesses u b) (sym same) ∙ k1))
+        (λ a.
+        let (k1, k2) = and-parts (eqb role 1 && eqb (its .processor) p) (accesses its b) a in
+        let (k3, k4) = and-parts (eqb role 1) (eqb (its .processor) p) k1 in
+        let is-it : roleNumbered role ≡ LV = role-LV role (eqb-true role 1 k3) in
+        any-member _ (its-store (LV-store (e .processors) (its .kind) (subst (λ (s : Role). List·Memᴰ s (roles (e .processors) (its .kind))) is-it its-role)))
+        (and-both k2 (and-both k4 (eq-eqb (numberOf its LV) o (ap (numberOf its) (sym is-it) ∙ number-is h accepted o low)))))
+
+    pub own-does : Does (t .rows) ownly (ownAt p (b / 8)) i k o
+    own-does = record {
+      hit = eqb role 1 && eqb (its .processor) p && accesses its b;
+      byte = byteWritten its b;
+      touches = touches (ownAt p (b / 8)) (eqb role 1 && eqb (its .processor) p) match matched;
+      leaves = leaves (ownAt p (b / 8)) (eqb role 1 && eqb (its .processor) p) match matched;
+      puts = puts (ownAt p (b / 8)) (eqb role 1 && eqb (its .processor) p) match matched;
+      gives = λ d. byte-is ownly o (byteWritten its b) d each ∙ ap (λ (u : Bool). cond u (byteWritten its b) d) own-any;
+    }
+      where
+        match : (eqb role 1 && eqb (its .processor) p) ≡ true → (writes role ≡ true) × (its-line < 8 → its-line ≡ b / 8 → writtenWord (t .rows) o ≡ ownAt p (b / 8))
+        match u =
+            let (u1, u2) = and-parts (eqb role 1) (eqb (its .processor) p) u in
+            let r : role ≡ 1 = eqb-true role 1 u1 in
+            let own : its .processor ≡ p = eqb-true (its .processor) p u2 in
+            (ap (λ (v : Bool). v || leb 3 role) u1, λ l q. word-LV r ∙ (let z : ownAt (its .processor) its-line % 128 ≡ ownAt p (b / 8) = omega (arith, few, accepted .processors-few) in z))
+
+        matched : writes role ≡ true → its-line < 8 → writtenWord (t .rows) o ≡ ownAt p (b / 8) → ((eqb role 1 && eqb (its .processor) p) ≡ true) × (its-line ≡ b / 8)
+        matched w l q =
+            split (eqb role 1)
+            (λ r.
+            let z = sym (word-LV (eqb-true role 1 r)) ∙ q in
+            (and-both r (eq-eqb (its .processor) p (omega (arith, few, accepted .processors-few, line-low, own-low, z))), omega (arith, few, accepted .processors-few, line-low, own-low, z)))
+            (λ r.
+            let far = writes-role role w (λ z. clash (eq-eqb role 1 z) r) in
+            absurd (omega (arith, few, accepted .processors-few, line-low, remote-low far, sym (word-RV far) ∙ q)))
+
+        each : (w : ℕ × ℕ) → List·Memᴰ w ownly → w .0 ≡ o → w .1 ≡ byteWritten its b
+        each w m q =
+            let (v, mv, s) = Memᴰ·of-map (λ u. (numberOf u LV, byteWritten u b)) (keep (λ u. eqb (u .processor) p) (keep (λ u. accesses u b) (stores e))) m in
+            let (mk, own) = of-keep (λ u. eqb (u .processor) p) (keep (λ u. accesses u b) (stores e)) mv in
+            let (same, r) = own-one (of-keep (λ u. accesses u b) (stores e) mk .0) (ap (λ (u : ℕ × ℕ). u .0) s ∙ q) in
+            ap (λ (u : ℕ × ℕ). u .1) (sym s) ∙ ap (λ (u : Instruction). byteWritten u b) same

@@ -1,0 +1,188 @@
+-- A position made again entry by entry: each entry must be open and not refused.
+use Prim.Native.Nat.{ℕ, suc, _+_, _*_, _≤_, _<_}
+use native.Mathlib.Omega.{arith}
+use native.Mathlib.Numerals.{add-one}
+use mathlib.Core.Path.{_≡_, refl, sym, ap, ap₂, _∙_, subst}
+use mathlib.Core.Bool.{Bool, true, false, not, _&&_, and-false}
+use mathlib.Core.List.{List, [], _∷_, _++_}
+use lib.ListN.{length, getD, set, take, drop, replicate, length-set, length-replicate, take-append-drop}
+use lib.Seq.{set-getD, take-suc, take-take}
+use borrow.Author.Tests.{not-true, not-false}
+use Rattle.base.specs.Lists.{member, distinct}
+use Rattle.base.proofs.Bools.{clash, is-false}
+use Rattle.base.proofs.Lists.{distinct-first}
+use Rattle.relation_places.proofs.PlaceLaws.{placing-none, placed-none}
+use Rattle.search_sets.specs.Set.{holds}
+use Rattle.search_sets.proofs.Members.{holds-none}
+use Rattle.search_sets.proofs.Tables.{putAt, put-here, put-word, put-other, put-length}
+use Rattle.search_admit.specs.Rows.{writtenWord, wordsWith, wordsFrom, wordsAfter, firstWords}
+use Rattle.search_admit.specs.Fits.{dueOf, refused, enabled, Standing, Tested}
+use Rattle.search_admit.proofs.FitLaws.{due-first}
+use Rattle.search_enabled.specs.Moves.{Moving}
+use Rattle.search_walk.specs.Walks.{stands, enables, opens, low, high, Levels, Level, Entered, Closed, Kept}
+use Rattle.search_walk.proofs.Gaps.{closed-front, entry}
+use Rattle.search_walk.proofs.Levels.{placed-more, remembered-more, levels-more}
+use Rattle.search_walk.proofs.Search.{open-tells}
+use Rattle.search_resume.specs.Replays.{Replayed}
+
+-- the sets before any operation
+module _ {n : ℕ} (rows words : List ℕ) (few : n ≤ 128) (first : words ≡ firstWords rows) (lo hi : ℕ)
+    (able : (a : ℕ) → a < n → holds lo hi a ≡ enabled rows 0 0 words a) where
+  abbrev none : List ℕ
+  none = replicate 774 0
+
+  abbrev made : List ℕ
+  made = putAt (putAt none 1 lo hi) 2 lo hi
+
+  made-low : getD made 0 0 ≡ 0
+  made-low = put-word (putAt none 1 lo hi) 2 lo hi 0 (λ e. omega arith) (λ e. omega arith) ∙ put-word none 1 lo hi 0 (λ e. omega arith) (λ e. omega arith)
+
+  made-high : getD made 1 0 ≡ 0
+  made-high = put-word (putAt none 1 lo hi) 2 lo hi 1 (λ e. omega arith) (λ e. omega arith) ∙ put-word none 1 lo hi 1 (λ e. omega arith) (λ e. omega arith)
+
+  stood-none : (a : ℕ) → stands made 0 a ≡ false
+  stood-none a = ap₂ (λ (u v : ℕ). holds u v a) made-low made-high ∙ holds-none a
+
+  one-long : length (putAt none 1 lo hi) ≡ 774
+  one-long = put-length none 1 lo hi ∙ length-replicate {A = ℕ} 774 0
+
+  enables-first : (a : ℕ) → enables made 0 a ≡ holds lo hi a
+  enables-first a =
+      put-other (putAt none 1 lo hi) 2 lo hi 1 (λ e. omega arith) a ∙ put-here none 1 lo hi (omega (arith, length-replicate {A = ℕ} 774 0)) a
+
+  opens-first : (a : ℕ) → opens made 0 a ≡ holds lo hi a
+  opens-first a = put-here (putAt none 1 lo hi) 2 lo hi (omega (arith, one-long)) a
+
+  pub levels-none : {levels : List ℕ} → levels ≡ made → (position : List ℕ) → Levels n rows position levels 0
+  unfolding member wordsFrom
+  levels-none e position = rw e record {
+    stood = λ j a h l. subst (λ (i : ℕ). stands made i a ≡ member (take i position) a) (let z : 0 ≡ j = omega arith in z) (stood-none a);
+    able = λ j a h l.
+        subst (λ (i : ℕ). enables made i a ≡ (not (stands made i a) && enabled rows (low made i) (high made i) (wordsAfter rows (take i position)) a)) (let z : 0 ≡ j = omega arith in z)
+        (enables-first a ∙ able a l
+        ∙ ap (λ (ws : List ℕ). enabled rows 0 0 ws a) first
+        ∙ ap₂ (λ (u v : ℕ). enabled rows u v (firstWords rows) a) (sym made-low) (sym made-high)
+        ∙ ap (λ (b : Bool). not b && enabled rows (low made 0) (high made 0) (firstWords rows) a) (sym (stood-none a)));
+    due = λ j a h l.
+        subst (λ (i : ℕ). opens made i a ≡ (dueOf rows (take i position) (low made i) (high made i) a && enables made i a)) (let z : 0 ≡ j = omega arith in z)
+        (opens-first a ∙ sym (enables-first a) ∙ ap (λ (b : Bool). b && enables made 0 a) (sym (due-first rows (low made 0) (high made 0) a)));
+  }
+
+-- nothing stands yet
+pub kept-none : {n : ℕ} {rows entries levels words replaced : List ℕ} → n ≤ 128 → words ≡ firstWords rows → Levels n rows entries levels 0
+    → Kept n rows entries (replicate 128 255) levels words replaced 0
+unfolding wordsFrom
+kept-none {n} {rows} {entries} few w h = record {
+  placed = placing-none {xs = entries} few refl placed-none .so-far;
+  levelled = h;
+  remembered = record { now-are = w; were = λ j h. absurd (omega arith) };
+}
+
+-- The invariant: the first j entries pass, and all is kept of them.
+pub record Replaying (n : ℕ) (rows : List ℕ) (size : ℕ) (given entries places levels words replaced : List ℕ) (j : ℕ) : Type 0 where
+  pub few : n ≤ 128
+  pub room : size ≤ n
+  pub within : j ≤ size
+  pub same : entries ≡ given
+  pub whole : length given ≡ 128
+  pub long : length places ≡ 128
+  pub wide : length words ≡ 128
+  pub apart : distinct n [] (take size given) ≡ true
+  pub kept : Kept n rows given places levels words replaced j
+  pub passes : (c : List ℕ → Bool) → Tested c n rows → Closed c → c [] ≡ true → c (take j given) ≡ true
+
+module _ {n : ℕ} {rows : List ℕ} {size : ℕ} {given entries places levels words replaced : List ℕ} {j : ℕ}
+    (inv : Replaying n rows size given entries places levels words replaced j) where
+  -- all entries are made
+  pub replay-done : size ≤ j → Replayed n rows size given true entries places levels words replaced
+  replay-done l =
+      let e : j ≡ size = omega (arith, inv .within) in
+      record {
+        same = inv .same;
+        long = inv .long;
+        wide = inv .wide;
+        kept = λ t. subst (λ (k : ℕ). Kept n rows entries places levels words replaced k) e
+            (subst (λ (xs : List ℕ). Kept n rows xs places levels words replaced j) (sym (inv .same)) (inv .kept));
+        means = λ c tested closed empty. sym (subst (λ (k : ℕ). c (take k given) ≡ true) e (inv .passes c tested closed empty));
+      }
+
+  module _ (x : ℕ) (below : j < size) (is : x ≡ getD entries j 0) where
+    x-is : x ≡ getD given j 0
+    x-is = is ∙ ap (λ (xs : List ℕ). getD xs j 0) (inv .same)
+
+    inside : j < length given
+    inside = omega (arith, inv .few, inv .room, inv .whole)
+
+    one-longer : take (suc j) given ≡ take j given ++ (x ∷ [])
+    one-longer = take-suc given j 0 inside ∙ ap (λ (o : ℕ). take j given ++ (o ∷ [])) (sym x-is)
+
+    front : take j given ++ (x ∷ []) ++ drop (suc j) (take size given) ≡ take size given
+    front =
+        ap (λ (ys : List ℕ). ys ++ drop (suc j) (take size given)) (sym one-longer ∙ sym (take-take (suc j) size given below))
+        ∙ take-append-drop (suc j) (take size given)
+
+    x-new : (x < n) × (not (member (take j given) x) ≡ true)
+    x-new = entry n (take j given) x [] (distinct-first n [] (take j given ++ (x ∷ [])) (drop (suc j) (take size given)) (ap (distinct n []) front ∙ inv .apart))
+
+    pub entry-low : x < n
+    entry-low = x-new .0
+
+    new : member (take j given) x ≡ false
+    new = not-true (member (take j given) x) (x-new .1)
+
+    standing : Standing (take j given) (low levels j) (high levels j)
+    standing a l = inv .kept .levelled .stood j a (omega arith) l
+
+    -- the tests say whether the first j + 1 entries pass
+    tells : (c : List ℕ → Bool) → Tested c n rows → Closed c → c [] ≡ true
+        → c (take j given ++ (x ∷ [])) ≡ (opens levels j x && not (refused rows places (low levels j) (high levels j) x))
+    tells c tested closed empty =
+        ap (λ (b : Bool). not b && c (take j given ++ (x ∷ []))) (sym new)
+        ∙ open-tells (inv .kept .levelled) (omega arith) x entry-low c tested (inv .passes c tested closed empty) (inv .kept .placed)
+
+    fails : (opens levels j x && not (refused rows places (low levels j) (high levels j) x)) ≡ false → Replayed n rows size given false entries places levels words replaced
+    fails f = record {
+      same = inv .same;
+      long = inv .long;
+      wide = inv .wide;
+      kept = λ t. clash t refl;
+      means = λ c tested closed empty. sym (is-false (c (take size given)) (λ t.
+          clash (closed-front c closed (drop (suc j) (take size given)) (take j given ++ (x ∷ [])) (ap c front ∙ t)) (tells c tested closed empty ∙ f)));
+    }
+
+    module _ (open-lo open-hi : ℕ) (open-at : (open-lo ≡ getD levels (2 * (3 * j + 2)) 0) × (open-hi ≡ getD levels (2 * (3 * j + 2) + 1) 0)) {r : Bool} (has : r ≡ holds open-lo open-hi x) where
+      opened : r ≡ opens levels j x
+      opened = has ∙ ap₂ (λ (u v : ℕ). holds u v x) (open-at .0) (open-at .1)
+
+      pub replay-closed : not r ≡ true → Replayed n rows size given false entries places levels words replaced
+      replay-closed h = fails (ap (λ (b : Bool). b && not (refused rows places (low levels j) (high levels j) x)) (sym opened ∙ not-true r h))
+
+      module _ {moved : List ℕ} {s : Bool} {entries' places' levels' words' replaced' : List ℕ}
+          (entered : Entered rows moved x j s entries places levels words replaced entries' places' levels' words' replaced') where
+        pub replay-refused : not s ≡ true → Replayed n rows size given false entries' places' levels' words' replaced'
+        replay-refused h =
+            let (a, b, d, e, f) = entered .left (not-true s h) in
+            rw (a, b, d, e, f) (fails (ap (λ (q : Bool). opens levels j x && q) (sym (entered .told) ∙ not-true s h) ∙ and-false (opens levels j x)))
+
+        pub replay-more : not r ≡ false → not s ≡ false → Moving n rows moved → Replaying n rows size given entries' places' levels' words' replaced' (j + 1)
+        replay-more h1 h2 moving = let (d, e, f, g, made, full) = entered .made (not-false s h2) in rw (e, f, g) record {
+          few = inv .few;
+          room = inv .room;
+          within = omega arith;
+          same = d ∙ ap₂ (λ (xs : List ℕ) (o : ℕ). set xs j o) (inv .same) x-is ∙ set-getD given j 0;
+          whole = inv .whole;
+          long = length-set places x j ∙ inv .long;
+          wide = length-set words (writtenWord rows x) _ ∙ inv .wide;
+          apart = inv .apart;
+          kept = subst (λ (xs : List ℕ). Kept n rows xs (set places x j) levels' (wordsWith rows words x) (set replaced j (getD words (writtenWord rows x) 0)) (j + 1))
+              (ap (set given j) x-is ∙ set-getD given j 0)
+              (record {
+                placed = placed-more given j x inside n places (inv .long) (inv .kept .placed) entry-low new;
+                levelled = levels-more (inv .kept .levelled) moved moving (inv .few) x entry-low inside
+                    (subst (λ (ws : List ℕ). Level rows moved ws x j levels levels') (f ∙ ap (λ (ws : List ℕ). wordsWith rows ws x) (inv .kept .remembered .now-are)) made);
+                remembered = remembered-more (inv .kept .remembered) x (inv .whole) full (omega (arith, inv .few, inv .room));
+              });
+          passes = λ c tested closed empty.
+              ap c (ap (λ (k : ℕ). take k given) (add-one j) ∙ one-longer) ∙ tells c tested closed empty
+              ∙ ap₂ (λ (a b : Bool). a && b) (sym opened ∙ not-false r h1) (sym (entered .told) ∙ not-false s h2);
+        }

@@ -1,0 +1,76 @@
+// What is kept of a position while it is walked from, made entry by entry; question 21 on the way.
+ghost use mathlib.Core.Path.{_≡_};
+ghost use mathlib.Core.Bool.{true};
+ghost use mathlib.Core.List.{List, []};
+ghost use Prim.Native.Nat.{ℕ, _≤_};
+ghost use lib.ListN as ListN;
+ghost use lib.ListN.{take};
+ghost use Rattle.base.specs.Lists.{distinct};
+ghost use Rattle.search_admit.specs.Rows.{firstWords};
+ghost use Rattle.search_enabled.specs.Moves.{Moving};
+ghost use Rattle.search_walk.specs.Walks.{Levels, Kept};
+ghost use Rattle.search_resume.specs.Replays.{Replayed};
+use record_decoded::types::wide;
+use search_enabled::first_enabled;
+use search_sets::at;
+use search_sets::has;
+use search_sets::put;
+use search_walk::ENABLED;
+use search_walk::OPEN;
+use search_walk::SETS;
+use search_walk::enter;
+
+// The words of memory before any operation.
+pub fn first_words(rows: &[u64]) -> [u64; 128]
+    requires { ⌜ ListN.length (now rows) ≡ 2304 ⌝ }
+    ensures { λ r. ⌜ r ≡ firstWords (now (rows .entry)) ⌝ }
+{
+    let mut words = [0u64; 128];
+    for i in 0..128 {
+        words[i] = rows[2176 + i];
+    }
+    words
+}
+
+// The sets before any operation.
+pub fn first_level(n: usize, rows: &[u64; 2304], words: &[u64; 128]) -> [u64; 774]
+    requires { ⌜ (n ≤ 128) × (now words ≡ firstWords (now rows)) ⌝ }
+    ensures { λ r. ⌜ ((position : List ℕ) → Levels n (now (rows .entry)) position r 0) ⌝ }
+{
+    let enabled = first_enabled(n, rows, words);
+    let mut levels = [0u64; 774];
+    put(&mut levels, ENABLED, enabled);
+    put(&mut levels, OPEN, enabled);
+    levels
+}
+
+// Whether the first `length` entries, which differ, pass the tests; if so, their places, sets and words are made.
+pub fn replay(
+    n: usize,
+    entries: &mut [u8; 128],
+    length: usize,
+    places: &mut [u8; 128],
+    levels: &mut [u64; 774],
+    words: &mut [u64; 128],
+    replaced: &mut [u64; 128],
+    rows: &[u64; 2304],
+    moved: &[u64; 256],
+) -> bool
+    requires { ⌜ (n ≤ 128) × (length ≤ n) × (distinct n [] (take length (now entries)) ≡ true) × Kept n (now rows) (now entries) (now places) (now levels) (now words) (now replaced) 0 × Moving n (now rows) (now moved) ⌝ }
+    requires { ⌜ (ListN.length (now entries) ≡ 128) × (ListN.length (now places) ≡ 128) × (ListN.length (now words) ≡ 128) ⌝ }
+    ensures { λ r. ⌜ Replayed n (now (rows .entry)) length (now (entries .entry)) r (now (entries .exit)) (now (places .exit)) (now (levels .exit)) (now (words .exit)) (now (replaced .exit)) ⌝ }
+{
+    let mut j = 0;
+    while j < length {
+        let x = wide(entries[j]);
+        let candidates = at(levels, SETS * j + OPEN);
+        if !has(candidates, x) {
+            return false;
+        }
+        if !enter(entries, j, places, levels, words, replaced, rows, moved, x) {
+            return false;
+        }
+        j += 1;
+    }
+    true
+}

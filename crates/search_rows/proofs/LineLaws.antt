@@ -1,0 +1,135 @@
+-- Bytes put into a word one after the other, bit by bit.
+use Prim.Native.Nat.{ℕ, suc, _+_, _*_, _-_, _/_, _%_, _^_, _≤_, _<_}
+use native.Mathlib.Omega.{arith}
+use mathlib.Core.Path.{_≡_, refl, sym, ap, ap₂, _∙_, subst}
+use mathlib.Core.Bool.{Bool, true, false, _&&_, _||_, or-false}
+use mathlib.Core.List.{List}
+use mathlib.Core.Logic.{⊎-elim}
+use native.Mathlib.Nat.{mul-assoc}
+use lib.ListN.{length, getD, List·getD-eq-default}
+use lib.Bits.{bitOr, shifted-even}
+use lib.Pow.{pow-add, shl-exact, shl-shr, shr-shr}
+use lib.Dec.{eqb, leb, ltb}
+use borrow.Author.Tests.{ne-eqb, eqb-true, eqb-false, le-leb, leb-true, lt-ltb, le-ltb, ltb-true}
+use Rattle.base.specs.Below.{allBelow}
+use Rattle.base.specs.Bits.{bit}
+use Rattle.base.proofs.Bools.{agree, split}
+use Rattle.base.proofs.Tests.{all-at}
+use Rattle.model.specs.Rules.{accesses}
+use Rattle.record_decoded.specs.declared.types.Execution.{Execution}
+use Rattle.record_decoded.specs.Decoded.{instructionAt}
+use Rattle.search_admit.specs.Rows.{covers, dataBit}
+use Rattle.search_sets.proofs.Bit.{has-or}
+use Rattle.search_sets.proofs.Laws.{lt-or-le, has-above, zero-has}
+
+-- a word shifted up
+shl-low : (b s i : ℕ) → i < s → bit (b * 2 ^ s) i ≡ false
+shl-low b s i h =
+    let d : suc (s - i - 1) + i ≡ s = omega arith in
+    ap (λ (x : ℕ). eqb (x % 2) 1)
+    (ap (λ (k : ℕ). b * 2 ^ k / 2 ^ i) (sym d) ∙ ap (λ (x : ℕ). x / 2 ^ i) (ap (λ (x : ℕ). b * x) (pow-add 2 (suc (s - i - 1)) i) ∙ product) ∙ shl-shr (b * 2 ^ suc (s - i - 1)) i)
+    ∙ ap (λ (x : ℕ). eqb x 1) (shifted-even b (s - i - 1))
+  where
+    product : b * (2 ^ suc (s - i - 1) * 2 ^ i) ≡ b * 2 ^ suc (s - i - 1) * 2 ^ i
+    product = sym (mul-assoc b (2 ^ suc (s - i - 1)) (2 ^ i))
+
+shl-high : (b s i : ℕ) → s ≤ i → bit (b * 2 ^ s) i ≡ bit b (i - s)
+shl-high b s i h =
+    let d : s + (i - s) ≡ i = omega arith in
+    ap (λ (x : ℕ). eqb (x % 2) 1)
+    (ap (λ (k : ℕ). b * 2 ^ s / 2 ^ k) (sym d) ∙ sym (shr-shr (b * 2 ^ s) s (i - s)) ∙ ap (λ (x : ℕ). x / 2 ^ (i - s)) (shl-shr b s))
+
+-- a byte at a place of a word
+byte-bit : (b place i : ℕ) → b < 256 → place < 8 → i < 64 → bit (b * 2 ^ (8 * place) % 2 ^ 64) i ≡ (eqb (i / 8) place && bit b (i % 8))
+byte-bit b place i small few low =
+    ap (λ (x : ℕ). bit x i) (shl-exact 8 (8 * place) 64 small (omega arith))
+    ∙ ⊎-elim
+    (λ (l : i < 8 * place). shl-low b (8 * place) i l ∙ sym (ap (λ (c : Bool). c && bit b (i % 8)) (ne-eqb (i / 8) place (λ e. omega arith))))
+    (λ (l : 8 * place ≤ i). shl-high b (8 * place) i l ∙ split (eqb (i / 8) place)
+    (λ t. let e : i / 8 ≡ place = eqb-true (i / 8) place t in ap (bit b) (let z : i - 8 * place ≡ i % 8 = omega arith in z) ∙ sym (ap (λ (c : Bool). c && bit b (i % 8)) t))
+    (λ f. let e = eqb-false (i / 8) place f in has-above 8 b (i - 8 * place) small (omega arith) ∙ sym (ap (λ (c : Bool). c && bit b (i % 8)) f)))
+    (lt-or-le i (8 * place))
+
+pub with-byte-is : (word b place i : ℕ) → b < 256 → place < 8 → i < 64 → bit (bitOr word (b * 2 ^ (8 * place) % 2 ^ 64)) i ≡ (bit word i || (eqb (i / 8) place && bit b (i % 8)))
+with-byte-is word b place i small few low = has-or word (b * 2 ^ (8 * place) % 2 ^ 64) i ∙ ap (λ (c : Bool). bit word i || c) (byte-bit b place i small few low)
+
+-- all bits of 255
+pub ones-bit : (k : ℕ) → k < 8 → bit 255 k ≡ true
+unfolding allBelow
+ones-bit k h = all-at (bit 255) 8 refl k h
+
+-- The invariant: the bytes at the first j places from `place` on are in the word.
+pub record Laid (p : ℕ → Bool) (place size j word : ℕ) : Type 0 where
+  pub few : j ≤ size
+  pub bits : (i : ℕ) → i < 64 → bit word i ≡ (leb place (i / 8) && ltb (i / 8) (place + j) && p i)
+
+pub laid-none : {p : ℕ → Bool} {place size : ℕ} → Laid p place size 0 0
+laid-none {p} {place} {size} = record {
+  few = omega arith;
+  bits = λ i l. zero-has i ∙ go i (leb place (i / 8)) refl (ltb (i / 8) (place + 0)) refl (p i);
+}
+  where
+    go : (i : ℕ) (a : Bool) → leb place (i / 8) ≡ a → (b : Bool) → ltb (i / 8) (place + 0) ≡ b → (c : Bool) → false ≡ (a && b && c)
+    go i true e true f c = absurd (omega (arith, leb-true place (i / 8) e, ltb-true (i / 8) (place + 0) f))
+    go i true e false f c = refl
+    go i false e b f c = refl
+
+pub laid-more : {p : ℕ → Bool} {place size j word : ℕ} → Laid p place size j word → j < size → (word' b : ℕ)
+    → ((i : ℕ) → i < 64 → bit word' i ≡ (bit word i || (eqb (i / 8) (place + j) && bit b (i % 8)))) → ((i : ℕ) → i < 64 → i / 8 ≡ place + j → bit b (i % 8) ≡ p i)
+    → Laid p place size (j + 1) word'
+laid-more {p} {place} {size} {j} {word} inv l word' b more is = record {
+  few = omega arith;
+  bits = λ i s. more i s ∙ ap (λ (c : Bool). c || (eqb (i / 8) (place + j) && bit b (i % 8))) (inv .bits i s) ∙ one i s;
+}
+  where
+    one : (i : ℕ) → i < 64 → ((leb place (i / 8) && ltb (i / 8) (place + j) && p i) || (eqb (i / 8) (place + j) && bit b (i % 8))) ≡ (leb place (i / 8) && ltb (i / 8) (place + (j + 1)) && p i)
+    one i s = split (eqb (i / 8) (place + j))
+        (λ t. let e : i / 8 ≡ place + j = eqb-true (i / 8) (place + j) t in
+        rw (t, le-ltb (i / 8) (place + j) (omega arith), lt-ltb (i / 8) (place + (j + 1)) (omega arith), le-leb place (i / 8) (omega arith)) (is i s e))
+        (λ f. let e = eqb-false (i / 8) (place + j) f in
+        ap (λ (c : Bool). (leb place (i / 8) && ltb (i / 8) (place + j) && p i) || (c && bit b (i % 8))) f ∙ or-false (leb place (i / 8) && ltb (i / 8) (place + j) && p i)
+        ∙ ap (λ (c : Bool). leb place (i / 8) && c && p i)
+        (agree (ltb (i / 8) (place + j)) (ltb (i / 8) (place + (j + 1))) (λ t. lt-ltb (i / 8) (place + (j + 1)) (omega (arith, ltb-true (i / 8) (place + j) t)))
+        (λ t. lt-ltb (i / 8) (place + j) (omega (arith, ltb-true (i / 8) (place + (j + 1)) t, e)))))
+
+pub laid : {p : ℕ → Bool} {place size j word : ℕ} → Laid p place size j word → size ≤ j → (i : ℕ) → i < 64 → bit word i ≡ (leb place (i / 8) && ltb (i / 8) (place + size) && p i)
+laid {p} {place} {size} {j} inv h i s = inv .bits i s ∙ ap (λ (k : ℕ). leb place (i / 8) && ltb (i / 8) (place + k) && p i) (let z : j ≡ size = omega (arith, inv .few) in z)
+
+-- bytes looked at one after the other
+pub known-more : (bytes : List ℕ) (j : ℕ) → ((i : ℕ) → i < j → getD bytes i 0 < 256) → getD bytes j 0 < 256 → (i : ℕ) → i < j + 1 → getD bytes i 0 < 256
+known-more bytes j before here i h =
+    ⊎-elim (λ (l : i < j). before i l) (λ (l : j ≤ i). subst (λ (k : ℕ). getD bytes k 0 < 256) (let z : j ≡ i = omega arith in z) here) (lt-or-le i j)
+
+pub known-all : (bytes : List ℕ) (j : ℕ) → ((i : ℕ) → i < j → getD bytes i 0 < 256) → length bytes ≤ j → (i : ℕ) → getD bytes i 0 < 256
+known-all bytes j known h i =
+    ⊎-elim (λ (l : i < j). known i l) (λ (l : j ≤ i). subst (λ (b : ℕ). b < 256) (sym (List·getD-eq-default bytes 0 (let z : length bytes ≤ i = omega arith in z))) (omega arith)) (lt-or-le i j)
+
+-- the bits of an instruction, by its place in the line
+module _ (x : Execution) (w : ℕ) {address size : ℕ} (is-address : address ≡ getD (x .instructions .addresses) w 0) (is-size : size ≡ getD (x .instructions .sizes) w 0) where
+  abbrev first : ℕ
+  first = getD (x .instructions .addresses) w 0
+
+  abbrev extent : ℕ
+  extent = getD (x .instructions .sizes) w 0
+
+  pub covers-by : (i : ℕ) → (leb (address % 8) (i / 8) && ltb (i / 8) (address % 8 + size)) ≡ covers x w i
+  unfolding covers accesses instructionAt
+  covers-by i =
+      ap₂ (λ (a s : ℕ). leb (a % 8) (i / 8) && ltb (i / 8) (a % 8 + s)) is-address is-size
+      ∙ ap₂ _&&_
+      (agree (leb (first % 8) (i / 8)) (leb first (8 * (first / 8) + i / 8)) (λ t. le-leb first (8 * (first / 8) + i / 8) (omega (arith, leb-true (first % 8) (i / 8) t)))
+      (λ t. le-leb (first % 8) (i / 8) (omega (arith, leb-true first (8 * (first / 8) + i / 8) t))))
+      (agree (ltb (i / 8) (first % 8 + extent)) (ltb (8 * (first / 8) + i / 8) (first + extent)) (λ t. lt-ltb (8 * (first / 8) + i / 8) (first + extent) (omega (arith, ltb-true (i / 8) (first % 8 + extent) t)))
+      (λ t. lt-ltb (i / 8) (first % 8 + extent) (omega (arith, ltb-true (8 * (first / 8) + i / 8) (first + extent) t))))
+
+  pub data-by : {bytes : List ℕ} → bytes ≡ x .instructions .bytes → (i : ℕ) → (leb (address % 8) (i / 8) && ltb (i / 8) (address % 8 + size) && bit (getD bytes (8 * w + (i / 8 - address % 8)) 0) (i % 8)) ≡ dataBit x w i
+  unfolding dataBit
+  data-by {bytes} lent i =
+      ap (λ (own : List ℕ). leb (address % 8) (i / 8) && ltb (i / 8) (address % 8 + size) && bit (getD own (8 * w + (i / 8 - address % 8)) 0) (i % 8)) lent
+      ∙ ap₂ (λ (b : Bool) (a : ℕ). b && bit (getD (x .instructions .bytes) (8 * w + (i / 8 - a % 8)) 0) (i % 8)) (covers-by i) is-address
+
+-- the bytes of a whole line
+pub whole-line : (initial : List ℕ) (line i : ℕ) → i < 64 → (leb 0 (i / 8) && ltb (i / 8) (0 + 8) && bit (getD initial (8 * line + (i / 8 - 0)) 0) (i % 8)) ≡ bit (getD initial (8 * line + i / 8) 0) (i % 8)
+whole-line initial line i h =
+    ap₂ (λ (b c : Bool). b && c && bit (getD initial (8 * line + (i / 8 - 0)) 0) (i % 8)) (le-leb 0 (i / 8) (omega arith)) (lt-ltb (i / 8) (0 + 8) (omega arith))
+    ∙ ap (λ (k : ℕ). bit (getD initial (8 * line + k) 0) (i % 8)) (omega arith)

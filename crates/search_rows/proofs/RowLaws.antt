@@ -1,0 +1,170 @@
+-- The seventeen words of a row are what they should be.
+use Prim.Native.Nat.{ℕ, suc, _+_, _*_, _-_, _/_, _%_, _≤_, _<_}
+use native.Mathlib.Omega.{arith}
+use mathlib.Core.Path.{_≡_, refl, sym, ap, ap₂, _∙_, subst}
+use mathlib.Core.Bool.{Bool, true, false, cond, _&&_, _||_}
+use mathlib.Core.List.{List, []}
+use lib.ListN.{length, getD}
+use lib.Dec.{eqb, leb, ltb}
+use borrow.Author.Tests.{eq-eqb, ne-eqb, lt-leb}
+use Rattle.base.specs.Below.{anyBelow}
+use Rattle.base.specs.Bits.{bit}
+use Rattle.base.proofs.Bools.{clash}
+use Rattle.model.specs.Execution.{operations}
+use Rattle.model.specs.Rules.{linked}
+use Rattle.model.proofs.Accepted.{Accepted, Sound}
+use Rattle.record_decoded.specs.declared.types.Execution.{Execution}
+use Rattle.record_decoded.specs.Decoded.{instructionAt, executionOf}
+use Rattle.relation_links.specs.declared.operations.Operations.{Operations}
+use Rattle.relation_links.specs.Operations.{operationAt}
+use Rattle.relation_links.specs.Compiled.{Compiled}
+use Rattle.relation_links.proofs.CompiledLaws.{few-instructions, owner-there}
+use Rattle.search_reduction.proofs.Apart.{each-in}
+use Rattle.search_sets.specs.Set.{holds}
+use Rattle.search_sets.proofs.Laws.{zero-has}
+use Rattle.search_admit.specs.Rows.{writes, visibleAt, ownAt, covers, dataBit, rivalBy, RowOf}
+use Rattle.relation_marks.specs.Marks.{hasMark, markAt}
+use Rattle.search_constraints.specs.Rows.{partnerOf, partnerAt, linkedOf, besideBy}
+use Rattle.search_constraints.proofs.LinkedLaws.{preds-mean}
+use Rattle.search_constraints.proofs.PartnerLaws.{remotes-fit, partner-means}
+use Rattle.search_constraints.proofs.OwnedLaws.{each-linked}
+use Rattle.search_meaning.proofs.Owners.{numbered-in}
+use Rattle.search_meaning.proofs.Bytes.{fits-line}
+use Rattle.search_rows.specs.Lent.{Lent}
+
+-- what a role writes
+pub writing-LV : (role : ℕ) → role ≡ 1 → true ≡ writes role
+writing-LV role h = ap (λ (b : Bool). b || leb 3 role) (sym (eq-eqb role 1 h))
+
+pub writing-by : (role : ℕ) → (role ≡ 1 → ⊥) → leb 3 role ≡ writes role
+writing-by role h = ap (λ (b : Bool). b || leb 3 role) (sym (ne-eqb role 1 h))
+
+-- the word that a role writes
+module _ (role processor line : ℕ) where
+  abbrev wordOf : ℕ
+  wordOf = cond (eqb role 1) (ownAt processor line) (visibleAt (role - 3) line)
+
+  pub word-LV : role ≡ 1 → writes role ≡ true → 64 + 8 * processor + line ≡ wordOf
+  word-LV h w = ap (λ (b : Bool). cond b (ownAt processor line) (visibleAt (role - 3) line)) (sym (eq-eqb role 1 h))
+
+  pub word-none : (role ≡ 1 → ⊥) → role < 3 → {word : ℕ} → writes role ≡ true → word ≡ wordOf
+  word-none h l w = clash w (sym (writing-by role h) ∙ lt-leb 3 role l)
+
+  pub word-RV : (role ≡ 1 → ⊥) → {q : ℕ} → q ≡ role - 3 → writes role ≡ true → 8 * q + line ≡ wordOf
+  word-RV h k w =
+      ap (λ (j : ℕ). visibleAt j line) k ∙ ap (λ (b : Bool). cond b (ownAt processor line) (visibleAt (role - 3) line)) (sym (ne-eqb role 1 h))
+
+-- the bits of a word that is wanted
+wanted-bit : (b c : Bool) (word i : ℕ) → bit word i ≡ c → bit (cond b word 0) i ≡ (b && c)
+wanted-bit true c word i h = h
+wanted-bit false c word i h = zero-has i
+
+-- an owner's access stays in its line
+pub owner-fits : {x : Execution} {t : Operations} {marks : List (List ℕ)} → Compiled x t marks → Accepted (executionOf x) → (o : ℕ) → o < operations (executionOf x)
+    → {owners roles kinds firsts processors addresses sizes bytes : List ℕ} → Lent x t owners roles kinds firsts processors addresses sizes bytes
+    → (w : ℕ) → w ≡ getD owners o 0 → (w < 40) × (getD addresses w 0 % 8 + getD sizes w 0 ≤ 8)
+unfolding instructionAt
+owner-fits {x} {t} {marks} h accepted o low {owners} {roles} {kinds} {firsts} {processors} {addresses} {sizes} {bytes} lent w is =
+    let there : getD (t .owners) o 0 < x .instructions .count = owner-there h o (omega (arith, h .tabled .counts)) in
+    let l : w < x .instructions .count = omega (arith, is ∙ ap (λ (own : List ℕ). getD own o 0) (lent .owners-are)) in
+    let fits : getD (x .instructions .addresses) w 0 % 8 + getD (x .instructions .sizes) w 0 ≤ 8 =
+    fits-line (each-in (Sound (executionOf x .processors) (length (executionOf x .lines))) (accepted .sound) (numbered-in (record { execution = x; operations = t; marks = marks; rows = [] }) w l)) in (
+      omega (arith, few-instructions x accepted),
+      subst (λ (n : ℕ). n ≤ 8) (ap₂ (λ (from long : List ℕ). getD from w 0 % 8 + getD long w 0) (sym (lent .addresses-are)) (sym (lent .sizes-are))) fits,
+    )
+
+module _ {x : Execution} {t : Operations} {marks : List (List ℕ)} (h : Compiled x t marks) (accepted : Accepted (executionOf x)) (o : ℕ) (low : o < operations (executionOf x))
+    {owners roles kinds firsts processors addresses sizes bytes : List ℕ} (lent : Lent x t owners roles kinds firsts processors addresses sizes bytes) where
+  abbrev owner : ℕ
+  owner = getD (t .owners) o 0
+
+  abbrev role : ℕ
+  role = getD (t .roles) o 0
+
+  there : o < t .count
+  there = omega (arith, h .tabled .counts)
+
+  -- what the sets hold of an operation of instruction w with a role, by the kinds, first operations, processors and addresses of the instructions
+  abbrev linkedSome : ℕ → List ℕ → List ℕ → List ℕ → ℕ → ℕ → Bool
+  linkedSome role ks fs ps w a = anyBelow (x .instructions .count) (λ v. linkedOf (x .processors) ks fs ps marks w role v a)
+
+  abbrev rivalSome : ℕ → List ℕ → List ℕ → ℕ → ℕ → Bool
+  rivalSome role fs ps w a = anyBelow (x .instructions .count) (λ v. rivalBy (markAt marks v w) role (getD fs v 0) (getD ps v 0) a)
+
+  abbrev bypassSome : ℕ → List ℕ → List ℕ → List ℕ → List ℕ → ℕ → ℕ → Bool
+  bypassSome role ks fs ps from w a =
+      anyBelow (x .instructions .count) (λ v. eqb role 0 && (besideBy ks ps from w v && eqb a (1 + getD fs v 0 + getD ps v 0)))
+
+  -- the same by the execution, of the operation's owner
+  linked-lent : (w a : ℕ) → w ≡ owner → linkedSome role kinds firsts processors w a ≡ linkedSome role (x .instructions .kinds) (x .instructions .firsts) (x .instructions .processors) owner a
+  linked-lent w a iw =
+      ap₂ (λ (ks fs : List ℕ). linkedSome role ks fs processors w a) (lent .kinds-are) (lent .firsts-are)
+      ∙ ap₂ (λ (ps : List ℕ) (v : ℕ). linkedSome role (x .instructions .kinds) (x .instructions .firsts) ps v a) (lent .processors-are) iw
+
+  rivals-lent : (w a : ℕ) → w ≡ owner → rivalSome role firsts processors w a ≡ rivalSome role (x .instructions .firsts) (x .instructions .processors) owner a
+  rivals-lent w a iw =
+      ap (λ (fs : List ℕ). rivalSome role fs processors w a) (lent .firsts-are)
+      ∙ ap₂ (λ (ps : List ℕ) (v : ℕ). rivalSome role (x .instructions .firsts) ps v a) (lent .processors-are) iw
+
+  bypass-lent : (w a : ℕ) → w ≡ owner
+      → bypassSome role kinds firsts processors addresses w a ≡ bypassSome role (x .instructions .kinds) (x .instructions .firsts) (x .instructions .processors) (x .instructions .addresses) owner a
+  bypass-lent w a iw =
+      ap₂ (λ (ks fs : List ℕ). bypassSome role ks fs processors addresses w a) (lent .kinds-are) (lent .firsts-are)
+      ∙ ap₂ (λ (ps from : List ℕ). bypassSome role (x .instructions .kinds) (x .instructions .firsts) ps from w a) (lent .processors-are) (lent .addresses-are)
+      ∙ ap (λ (v : ℕ). bypassSome role (x .instructions .kinds) (x .instructions .firsts) (x .instructions .processors) (x .instructions .addresses) v a) iw
+
+  partner-by : (a : ℕ) → partnerOf (markAt marks owner owner) role (getD (x .instructions .firsts) owner 0) (x .processors) a ≡ partnerAt x t marks o a
+  unfolding partnerAt
+  partner-by a = refl
+
+  -- the RVs of an st.rel to WB are operations
+  pub partners-fit : (w first : ℕ) → w ≡ owner → first ≡ getD firsts w 0 → hasMark (markAt marks w w) 512 ≡ true → (q : ℕ) → q < x .processors → suc first + q < 128
+  partners-fit w first iw isf mark q l =
+      omega (arith, remotes-fit h accepted o there (ap (λ (v : ℕ). hasMark (markAt marks v v) 512) (sym iw) ∙ mark) q l, isf ∙ ap₂ (λ (fs : List ℕ) (v : ℕ). getD fs v 0) (lent .firsts-are) iw)
+
+  -- what makes a row of the operation, by its role
+  abbrev RowIs : ℕ → Type 0
+  RowIs r =
+      (row : ℕ → ℕ) (w first processor line : ℕ) → w ≡ owner → first ≡ getD firsts w 0 → processor ≡ getD processors w 0
+      → line ≡ getD addresses w 0 / 8
+      → ((a : ℕ) → a < 128 → holds (row 0) (row 1) a ≡ linkedSome r kinds firsts processors w a)
+      → ((a : ℕ) → holds (row 2) (row 3) a ≡ partnerOf (markAt marks w w) r first (x .processors) a)
+      → ((a : ℕ) → a < 128 → holds (row 4) (row 5) a ≡ rivalSome r firsts processors w a)
+      → ((a : ℕ) → a < 128 → holds (row 6) (row 7) a ≡ bypassSome r kinds firsts processors addresses w a)
+      → (bits written : ℕ) → ((i : ℕ) → i < 64 → bit bits i ≡ covers x w i) → ((i : ℕ) → i < 64 → bit written i ≡ dataBit x w i)
+      → (writing : Bool) → writing ≡ writes r
+      → row 8 ≡ cond writing bits 0 → row 9 ≡ cond writing written 0
+      → (writes r ≡ true → row 10 ≡ cond (eqb r 1) (ownAt processor line) (visibleAt (r - 3) line))
+      → row 11 ≡ cond (eqb r 0) bits 0 → row 12 ≡ cond (eqb r 0) written 0
+      → row 13 ≡ 8 * processor + line → row 14 ≡ 64 + 8 * processor + line
+      → row 15 ≡ cond writing (1 + first + processor) o → row 16 ≡ cond writing first o
+      → RowOf x t marks o row
+
+  row-by-role : RowIs role
+  row-by-role row w first processor line iw isf ip il preds partners rivals bypasses bits written bits-are data-are writing wr r8 r9 r10 r11 r12 r13 r14 r15 r16 = record {
+    preds-are = λ a l. preds a l ∙ linked-lent w a iw ∙ each-linked h o a ∙ preds-mean h accepted o a there ∙ ap (λ (n : ℕ). ltb a n && linked (executionOf x) (operationAt (x .instructions) t a) (operationAt (x .instructions) t o)) (h .tabled .counts);
+    partners-are = λ a l. partners a ∙ ap₂ (λ (v f : ℕ). partnerOf (markAt marks v v) role f (x .processors) a) iw first-is ∙ partner-by a ∙ partner-means h accepted o there a;
+    rivals-are = λ a l. rivals a l ∙ rivals-lent w a iw;
+    bypasses-are = λ a l. bypasses a l ∙ bypass-lent w a iw;
+    writes-bits = λ i l. ap (λ (v : ℕ). bit v i) r8 ∙ wanted-bit writing (covers x w i) bits i (bits-are i l) ∙ ap₂ (λ (b : Bool) (v : ℕ). b && covers x v i) wr iw;
+    writes-data = λ i l. ap (λ (v : ℕ). bit v i) r9 ∙ wanted-bit writing (dataBit x w i) written i (data-are i l) ∙ ap₂ (λ (b : Bool) (v : ℕ). b && dataBit x v i) wr iw;
+    writes-word = λ u. r10 u ∙ ap₂ (λ (p l : ℕ). cond (eqb role 1) (ownAt p l) (visibleAt (role - 3) l)) processor-is line-is;
+    reads-bits = λ i l. ap (λ (v : ℕ). bit v i) r11 ∙ wanted-bit (eqb role 0) (covers x w i) bits i (bits-are i l) ∙ ap (λ (v : ℕ). eqb role 0 && covers x v i) iw;
+    reads-data = λ i l. ap (λ (v : ℕ). bit v i) r12 ∙ wanted-bit (eqb role 0) (dataBit x w i) written i (data-are i l) ∙ ap (λ (v : ℕ). eqb role 0 && dataBit x v i) iw;
+    reads-visible = λ u. r13 ∙ ap₂ visibleAt processor-is line-is;
+    reads-own = λ u. r14 ∙ ap₂ ownAt processor-is line-is;
+    own-is = r15 ∙ ap₂ (λ (b : Bool) (n : ℕ). cond b n o) wr (ap₂ (λ (f p : ℕ). 1 + f + p) first-is processor-is);
+    local-is = r16 ∙ ap₂ (λ (b : Bool) (n : ℕ). cond b n o) wr first-is;
+  }
+    where
+      processor-is : processor ≡ getD (x .instructions .processors) owner 0
+      processor-is = ip ∙ ap₂ (λ (ps : List ℕ) (v : ℕ). getD ps v 0) (lent .processors-are) iw
+
+      line-is : line ≡ getD (x .instructions .addresses) owner 0 / 8
+      line-is = il ∙ ap₂ (λ (from : List ℕ) (v : ℕ). getD from v 0 / 8) (lent .addresses-are) iw
+
+      first-is : first ≡ getD (x .instructions .firsts) owner 0
+      first-is = isf ∙ ap₂ (λ (fs : List ℕ) (v : ℕ). getD fs v 0) (lent .firsts-are) iw
+
+  pub row-is : RowIs (getD roles o 0)
+  row-is = subst RowIs (sym (ap (λ (own : List ℕ). getD own o 0) (lent .roles-are))) row-by-role

@@ -1,0 +1,122 @@
+-- The table of rows, made one after the other.
+use Prim.Native.Nat.{ℕ, _+_, _*_, _-_, _/_, _%_, _≤_, _<_}
+use native.Mathlib.Omega.{arith}
+use native.Mathlib.Decide.{ℕ-discrete, decLt}
+use mathlib.Core.Path.{_≡_, refl, sym, ap, ap₂, _∙_, subst}
+use mathlib.Core.List.{List}
+use mathlib.Core.Logic.{_⊎_, inl, inr, ⊎-elim}
+use lib.ListN.{length, getD, set, drop, length-set}
+use lib.Seq.{getD-set-same, getD-set-other, getD-take, getD-drop}
+use Rattle.base.specs.Bits.{bit}
+use Rattle.model.specs.Execution.{operations}
+use Rattle.record_decoded.specs.declared.types.Execution.{Execution}
+use Rattle.record_decoded.specs.Decoded.{executionOf}
+use Rattle.relation_links.specs.declared.operations.Operations.{Operations}
+use Rattle.relation_links.specs.Compiled.{Compiled}
+use Rattle.search_admit.specs.Rows.{field, firstWords, Initial, Bytes, RowOf, Holds}
+use Rattle.search_sets.specs.Set.{holds}
+use Rattle.search_rows.specs.Puts.{Put}
+
+-- the first words, by their place in the table
+first-at : (rows : List ℕ) (c : ℕ) → c < 128 → getD (firstWords rows) c 0 ≡ getD rows (2176 + c) 0
+first-at rows c l = getD-take 128 (drop 2176 rows) c 0 l ∙ getD-drop 2176 rows c 0
+
+-- The invariant: the first c words are made.
+pub record Begun (x : Execution) (rows : List ℕ) (c : ℕ) : Type 0 where
+  pub few : c ≤ 128
+  pub long : length rows ≡ 2304
+  pub words : (k i : ℕ) → k < c → i < 64 → bit (getD rows (2176 + k) 0) i ≡ bit (getD (x .lines .initial) (8 * (k % 8) + i / 8) 0) (i % 8)
+
+pub begun-none : {x : Execution} {rows : List ℕ} → length rows ≡ 2304 → Begun x rows 0
+begun-none l = record { few = omega arith; long = l; words = λ k i h s. absurd (omega arith) }
+
+pub begun-more : {x : Execution} {rows : List ℕ} {c : ℕ} → Begun x rows c → c < 128 → (word : ℕ)
+    → ((i : ℕ) → i < 64 → bit word i ≡ bit (getD (x .lines .initial) (8 * (c % 8) + i / 8) 0) (i % 8)) → Begun x (set rows (2176 + c) word) (c + 1)
+begun-more {x} {rows} {c} inv l word is = record {
+  few = omega arith;
+  long = length-set rows (2176 + c) word ∙ inv .long;
+  words = λ k i h s. go k i h s (ℕ-discrete k c);
+}
+  where
+    go : (k i : ℕ) → k < c + 1 → i < 64 → Dec (k ≡ c) → bit (getD (set rows (2176 + c) word) (2176 + k) 0) i ≡ bit (getD (x .lines .initial) (8 * (k % 8) + i / 8) 0) (i % 8)
+    go k i h s (yes q) = rw q (ap (λ (w : ℕ). bit w i) (getD-set-same rows (2176 + c) word 0 (omega (arith, inv .long))) ∙ is i s)
+    go k i h s (no q) = ap (λ (w : ℕ). bit w i) (getD-set-other rows (2176 + c) (2176 + k) word 0 (λ e. q (omega arith))) ∙ inv .words k i (omega arith) s
+
+pub begun : {x : Execution} {rows : List ℕ} {c : ℕ} → Begun x rows c → 128 ≤ c → Initial x (firstWords rows)
+begun {x} {rows} inv h c i l s = ap (λ (w : ℕ). bit w i) (first-at rows c l) ∙ inv .words c i (omega arith) s
+
+-- a row put in, one word after the other
+pub put-none : {before row : List ℕ} {at : ℕ} → Put before row at 0 before
+put-none = record { long = refl; new = λ f h. absurd (omega arith); old = λ i h. refl }
+
+pub put-more : {before row : List ℕ} {at j : ℕ} {after : List ℕ} → Put before row at j after → at + j < length before → Put before row at (j + 1) (set after (at + j) (getD row j 0))
+put-more {before} {row} {at} {j} {after} inv room = record {
+  long = length-set after (at + j) (getD row j 0) ∙ inv .long;
+  new = λ f h. go f h (ℕ-discrete f j);
+  old = λ i h. getD-set-other after (at + j) i (getD row j 0) 0 (λ e. apart i h e) ∙ inv .old i (⊎-elim (λ l. inl l) (λ l. inr (omega arith)) h);
+}
+  where
+    go : (f : ℕ) → f < j + 1 → Dec (f ≡ j) → getD (set after (at + j) (getD row j 0)) (at + f) 0 ≡ getD row f 0
+    go f h (yes q) = rw q (getD-set-same after (at + j) (getD row j 0) 0 (omega (arith, inv .long)))
+    go f h (no q) = getD-set-other after (at + j) (at + f) (getD row j 0) 0 (λ e. q (omega arith)) ∙ inv .new f (omega arith)
+
+    apart : (i : ℕ) → (i < at) ⊎ (at + (j + 1) ≤ i) → i ≡ at + j → ⊥
+    apart i (inl l) e = omega arith
+    apart i (inr l) e = omega arith
+
+pub put-done : {before row : List ℕ} {at j : ℕ} {after : List ℕ} → Put before row at j after → j ≡ 17 → Put before row at 17 after
+put-done {before} {row} {at} {j} {after} inv e = subst (λ (k : ℕ). Put before row at k after) e inv
+
+-- the same row by another name
+row-same : {x : Execution} {t : Operations} {marks : List (List ℕ)} {o : ℕ} (row row' : ℕ → ℕ) → ((f : ℕ) → f < 17 → row' f ≡ row f) → RowOf x t marks o row → RowOf x t marks o row'
+row-same row row' e r = record {
+  preds-are = λ a l. ap₂ (λ (u v : ℕ). holds u v a) (e 0 (omega arith)) (e 1 (omega arith)) ∙ r .preds-are a l;
+  partners-are = λ a l. ap₂ (λ (u v : ℕ). holds u v a) (e 2 (omega arith)) (e 3 (omega arith)) ∙ r .partners-are a l;
+  rivals-are = λ a l. ap₂ (λ (u v : ℕ). holds u v a) (e 4 (omega arith)) (e 5 (omega arith)) ∙ r .rivals-are a l;
+  bypasses-are = λ a l. ap₂ (λ (u v : ℕ). holds u v a) (e 6 (omega arith)) (e 7 (omega arith)) ∙ r .bypasses-are a l;
+  writes-bits = λ i l. ap (λ (u : ℕ). bit u i) (e 8 (omega arith)) ∙ r .writes-bits i l;
+  writes-data = λ i l. ap (λ (u : ℕ). bit u i) (e 9 (omega arith)) ∙ r .writes-data i l;
+  writes-word = λ w. e 10 (omega arith) ∙ r .writes-word w;
+  reads-bits = λ i l. ap (λ (u : ℕ). bit u i) (e 11 (omega arith)) ∙ r .reads-bits i l;
+  reads-data = λ i l. ap (λ (u : ℕ). bit u i) (e 12 (omega arith)) ∙ r .reads-data i l;
+  reads-visible = λ w. e 13 (omega arith) ∙ r .reads-visible w;
+  reads-own = λ w. e 14 (omega arith) ∙ r .reads-own w;
+  own-is = e 15 (omega arith) ∙ r .own-is;
+  local-is = e 16 (omega arith) ∙ r .local-is;
+}
+
+-- The invariant: the rows of the first o operations are in.
+pub record Filled (x : Execution) (t : Operations) (marks : List (List ℕ)) (n : ℕ) (rows : List ℕ) (o : ℕ) : Type 0 where
+  pub few : o ≤ n
+  pub long : length rows ≡ 2304
+  pub starts : Initial x (firstWords rows)
+  pub rowed : (k : ℕ) → k < o → RowOf x t marks k (λ f. field rows f k)
+
+pub filled-none : {x : Execution} {t : Operations} {marks : List (List ℕ)} {n : ℕ} {rows : List ℕ} → length rows ≡ 2304 → Initial x (firstWords rows) → Filled x t marks n rows 0
+filled-none l s = record { few = omega arith; long = l; starts = s; rowed = λ k h. absurd (omega arith) }
+
+pub filled-more : {x : Execution} {t : Operations} {marks : List (List ℕ)} {n : ℕ} {rows : List ℕ} {o : ℕ} → Filled x t marks n rows o → o < n → n ≤ 128 → (row : List ℕ)
+    → RowOf x t marks o (λ f. getD row f 0) → {after : List ℕ} → Put rows row (17 * o) 17 after → Filled x t marks n after (o + 1)
+filled-more {x} {t} {marks} {n} {rows} {o} inv l few row made {after} put = record {
+  few = omega arith;
+  long = put .long ∙ inv .long;
+  starts = λ c i h s. ap (λ (w : ℕ). bit w i) (first-at after c h ∙ put .old (2176 + c) (inr (omega arith)) ∙ sym (first-at rows c h)) ∙ inv .starts c i h s;
+  rowed = λ k h. go k h (decLt k o);
+}
+  where
+    go : (k : ℕ) → k < o + 1 → Dec (k < o) → RowOf x t marks k (λ f. field after f k)
+    go k h (yes m) = row-same (λ f. field rows f k) (λ f. field after f k) (λ f s. put .old (17 * k + f) (inl (omega arith))) (inv .rowed k m)
+    go k h (no m) =
+        let e : o ≡ k = omega arith in
+        subst (λ (j : ℕ). RowOf x t marks j (λ f. field after f j)) e (row-same (λ f. getD row f 0) (λ f. field after f o) (λ f s. put .new f s) made)
+
+pub filled : {x : Execution} {t : Operations} {marks : List (List ℕ)} {n : ℕ} {rows : List ℕ} {o : ℕ} → Filled x t marks n rows o → n ≤ o → Compiled x t marks → n ≡ operations (executionOf x)
+    → Bytes (x .instructions .bytes) → Bytes (x .lines .initial) → Holds x t marks rows
+filled {x} {t} {marks} {n} {rows} {o} inv h compiled count b c = record {
+  compiled = compiled;
+  rowed = λ k l. inv .rowed k (omega arith);
+  whole = inv .long;
+  starts = inv .starts;
+  data-bytes = b;
+  initial-bytes = c;
+}

@@ -1,0 +1,132 @@
+// The row of one operation: seventeen words.
+ghost use mathlib.Core.Path.{_≡_};
+ghost use mathlib.Core.Bool.{true, cond};
+ghost use Prim.Native.Nat.{ℕ, _+_, _-_, _<_};
+ghost use lib.ListN.{getD};
+ghost use lib.Dec.{eqb};
+ghost use Rattle.model.specs.Execution.{operations};
+ghost use Rattle.model.proofs.Accepted.{Accepted};
+ghost use Rattle.record_decoded.specs.Decoded.{executionOf};
+ghost use Rattle.relation_links.specs.Compiled.{Compiled};
+ghost use Rattle.search_admit.specs.Rows.{writes, visibleAt, ownAt, RowOf};
+ghost use Rattle.search_rows.specs.Lent.{Lent};
+use crate::line::bits_from;
+use crate::line::data_from;
+use record_decoded::kind::ROLE_LV;
+use record_decoded::kind::ROLE_R;
+use record_decoded::kind::ROLE_RV;
+use record_decoded::types::Execution;
+use record_decoded::types::wide;
+use record_decoded::types::wide16;
+use relation_links::operations::Operations;
+use search_constraints::bypasses_at;
+use search_constraints::partners_at;
+use search_constraints::preds_at;
+use search_constraints::rivals_at;
+
+// Whether an operation with a role writes: an LV or an RV.
+fn is_writing(role: u8) -> bool
+    ensures { λ r. ⌜ r ≡ writes role ⌝ }
+{
+    if role == ROLE_LV {
+        true
+    } else {
+        role >= ROLE_RV
+    }
+}
+
+// A word where it is wanted, else 0.
+fn wanted(is: bool, word: u64) -> u64
+    ensures { λ r. ⌜ r ≡ cond is word 0 ⌝ }
+{
+    if is { word } else { 0 }
+}
+
+// The number of an operation's store's operation, or its own.
+fn number_of(writing: bool, number: usize, o: usize) -> u64
+    ensures { λ r. ⌜ r ≡ cond writing number o ⌝ }
+{
+    if writing { number as u64 } else { o as u64 }
+}
+
+// The word that an LV or an RV writes. Another operation writes no bits, and to the last word: where it wrote to one that loads read, the search would ask
+// these again behind it.
+fn word_of(role: u8, processor: usize, line: usize) -> u64
+    requires { ⌜ (processor < 256) × (line < 256) ⌝ }
+    ensures { λ r. ⌜ (writes role ≡ true → r ≡ cond (eqb role 1) (ownAt processor line) (visibleAt (role - 3) line)) ⌝ }
+{
+    if role == ROLE_LV {
+        return (64 + 8 * processor + line) as u64;
+    }
+    if role < ROLE_RV {
+        return 127;
+    }
+    (8 * wide(role - ROLE_RV) + line) as u64
+}
+
+// The row of operation o, by the arrays of the operations and the instructions, that are lent for all rows.
+pub fn row_of<'a>(
+    x: Execution,
+    t: Operations,
+    marks: &'a [[u16; 40]; 40],
+    owners: &'a [u8; 128],
+    roles: &'a [u8; 128],
+    kinds: &'a [u8; 40],
+    firsts: &'a [u16; 40],
+    processors: &'a [u8; 40],
+    addresses: &'a [u8; 40],
+    sizes: &'a [u8; 40],
+    bytes: &'a [u8; 320],
+    o: usize,
+) -> [u64; 17]
+    requires { ⌜ Compiled x t (now marks) × Accepted (executionOf x) × (o < operations (executionOf x)) × Lent x t (now owners) (now roles) (now kinds) (now firsts) (now processors) (now addresses) (now sizes) (now bytes) ⌝ }
+    ensures { λ r. ⌜ RowOf x t (now (marks .entry)) o (λ (f : ℕ). getD r f 0) ⌝ }
+{
+    let every = x.processors;
+    let n = x.instructions.count;
+    let w = wide(owners[o]);
+    let role = roles[o];
+    let first = wide16(firsts[w]);
+    let processor = wide(processors[w]);
+    let address = wide(addresses[w]);
+    let size = wide(sizes[w]);
+    let line = address / 8;
+    let place = address % 8;
+    let preds = preds_at(n, every, kinds, firsts, processors, marks, w, role);
+    let partners = partners_at(marks[w][w], role, first, every);
+    let rivals = rivals_at(n, firsts, processors, marks, w, role);
+    let bypasses = bypasses_at(n, kinds, firsts, processors, addresses, w, role);
+    let bits = bits_from(place, size);
+    let data = data_from(bytes, w, place, size);
+    let writing = is_writing(role);
+    let reading = role == ROLE_R;
+    let written_bits = wanted(writing, bits);
+    let written_data = wanted(writing, data);
+    let written_word = word_of(role, processor, line);
+    let read_bits = wanted(reading, bits);
+    let read_data = wanted(reading, data);
+    let visible_word = (8 * processor + line) as u64;
+    let own_word = (64 + 8 * processor + line) as u64;
+    let own_number = 1 + first + processor;
+    let own = number_of(writing, own_number, o);
+    let local = number_of(writing, first, o);
+    [
+        preds.lo,
+        preds.hi,
+        partners.lo,
+        partners.hi,
+        rivals.lo,
+        rivals.hi,
+        bypasses.lo,
+        bypasses.hi,
+        written_bits,
+        written_data,
+        written_word,
+        read_bits,
+        read_data,
+        visible_word,
+        own_word,
+        own,
+        local,
+    ]
+}

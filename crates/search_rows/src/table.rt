@@ -1,0 +1,85 @@
+// All rows, and behind them the words of memory before any operation.
+ghost use mathlib.Core.Path.{_≡_};
+ghost use Prim.Native.Nat.{_*_, _<_};
+ghost use lib.ListN.{length};
+ghost use Rattle.model.proofs.Accepted.{Accepted};
+ghost use Rattle.record_decoded.specs.Decoded.{executionOf};
+ghost use Rattle.relation_links.specs.Compiled.{Compiled};
+ghost use Rattle.search_admit.specs.Rows.{firstWords, Initial, Bytes, Holds};
+ghost use Rattle.search_rows.specs.Puts.{Put};
+use crate::line::initial_word;
+use crate::line::known_bytes;
+use crate::row::row_of;
+use record_decoded::types::Execution;
+use relation_links::operations::Operations;
+
+// Puts the first words in: the initial bytes of each line, for each processor and each kind of word.
+fn put_first(rows: &mut [u64; 2304], x: Execution)
+    requires { ⌜ length (now rows) ≡ 2304 ⌝ }
+    ensures { λ _. ⌜ (length (now (rows .exit)) ≡ 2304) × Initial x (firstWords (now (rows .exit))) ⌝ }
+{
+    for c in 0..128 {
+        rows[2176 + c] = initial_word(x.lines, c % 8);
+    }
+}
+
+// Puts the row of an operation in.
+fn put_row(rows: &mut [u64], o: usize, row: &[u64])
+    requires { ⌜ (o < 128) × (length (now rows) ≡ 2304) × (length (now row) ≡ 17) ⌝ }
+    ensures { λ _. ⌜ Put (now (rows .entry)) (now (row .entry)) (17 * o) 17 (now (rows .exit)) ⌝ }
+{
+    let at = 17 * o;
+    for f in 0..17 {
+        rows[at + f] = row[f];
+    }
+}
+
+// All data bytes are below 256. Nothing is computed: this is for proofs.
+fn known_data(x: Execution)
+    ensures { λ _. ⌜ Bytes (x .instructions .bytes) × Bytes (x .lines .initial) ⌝ }
+{
+    let is = x.instructions;
+    let bytes = is.bytes;
+    known_bytes(&bytes);
+    let lines = x.lines;
+    let initial = lines.initial;
+    known_bytes(&initial);
+}
+
+// What is compiled of an execution.
+pub fn rows_of(x: Execution, t: Operations, marks: &[[u16; 40]; 40]) -> [u64; 2304]
+    requires { ⌜ Compiled x t (now marks) × Accepted (executionOf x) ⌝ }
+    ensures { λ r. ⌜ Holds x t (now (marks .entry)) r ⌝ }
+{
+    let n = t.count;
+    let owners = t.owners;
+    let roles = t.roles;
+    let is = x.instructions;
+    let kinds = is.kinds;
+    let firsts = is.firsts;
+    let processors = is.processors;
+    let addresses = is.addresses;
+    let sizes = is.sizes;
+    let bytes = is.bytes;
+    let mut rows = [0u64; 2304];
+    put_first(&mut rows, x);
+    for o in 0..n {
+        let row = row_of(
+            x,
+            t,
+            marks,
+            &owners,
+            &roles,
+            &kinds,
+            &firsts,
+            &processors,
+            &addresses,
+            &sizes,
+            &bytes,
+            o,
+        );
+        put_row(&mut rows, o, &row);
+    }
+    known_data(x);
+    rows
+}

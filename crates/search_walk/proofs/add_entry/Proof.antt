@@ -1,0 +1,65 @@
+-- Three entries and the sets of a level.
+use lib.ListN.{set}
+use mathlib.Core.Path.{refl, ap}
+use borrow.Author.Needs.{needs}
+use Rattle.search_walk.proofs.add_entry.Statement.{statement}
+use Rattle.search_walk.proofs.add_entry.Tie as tie
+
+cast-position : tie.Need-cast-position
+cast-position c = search needs
+
+slice-write-position : tie.Need-slice-write-position
+slice-write-position c = search needs
+
+cast-places : tie.Need-cast-places
+cast-places c = search needs
+
+slice-write-places : tie.Need-slice-write-places
+slice-write-places c = search needs
+
+write-requires : tie.Need-write-requires
+write-requires c κs = search needs
+
+mul-replaced : tie.Need-mul-replaced
+mul-replaced c = search needs
+
+slice-write-replaced : tie.Need-slice-write-replaced
+slice-write-replaced c = search needs
+
+add-level-requires : tie.Need-add-level-requires
+add-level-requires c κs = search needs
+
+same-length : tie.Need-same-length
+same-length c = search needs
+
+same-length-2 : tie.Need-same-length-2
+same-length-2 c = search needs
+
+same-length-3 : tie.Need-same-length-3
+same-length-3 c = search needs
+
+same-length-4 : tie.Need-same-length-4
+same-length-4 c = search needs
+
+returns : tie.Need-returns
+returns c =
+    let a = c .before .before .before .before .before .before .before .before .before .before .before .args in
+    (refl, refl, c .before .before .before .before .before .write .ensures .1, ap (set (a .replaced .now) (a .k)) (c .before .before .before .before .before .write .ensures .0), c .before .before .add-level .ensures)
+
+pub add-entry-spec : {M : Type 1} → statement M
+add-entry-spec =
+    tie.close
+    (tie.spec
+    cast-position
+    slice-write-position
+    cast-places
+    slice-write-places
+    write-requires
+    mul-replaced
+    slice-write-replaced
+    add-level-requires
+    same-length
+    same-length-2
+    same-length-3
+    same-length-4
+    returns)

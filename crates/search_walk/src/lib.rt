@@ -1,0 +1,156 @@
+// The walk: from a consistent prefix that is not full to the next one in lexicographic order.
+ghost use mathlib.Core.Path.{_≡_};
+ghost use Prim.Native.Nat.{_<_, _≤_};
+ghost use lib.ListN as ListN;
+ghost use lib.ListN.{length, getD, set, take};
+ghost use Rattle.search_admit.specs.Rows.{writtenWord, wordsWith};
+ghost use Rattle.search_enabled.specs.Moves.{Moving};
+ghost use Rattle.search_walk.specs.Walks.{Level, Entered, Kept, Walked};
+use record_decoded::types::wide;
+use relation_places::ABSENT;
+use search_admit::is_refused;
+use search_admit::unwrite;
+use search_admit::write;
+use search_enabled::enabled_after;
+use search_enabled::open_after;
+use search_sets::at;
+use search_sets::first;
+use search_sets::insert;
+use search_sets::put;
+
+// The length of the next consistent prefix, or that there is none.
+pub enum WalkAnswer {
+    Next(usize),
+    End,
+}
+
+// The sets of a level, in their order: the operations that stand, those that are enabled behind them, and those of these that are open to follow.
+pub const SETS: usize = 3;
+
+pub const ENABLED: usize = 1;
+
+pub const OPEN: usize = 2;
+
+// Makes the sets of level k + 1 from those of level k, x being the entry at k.
+fn add_level(
+    levels: &mut [u64],
+    k: usize,
+    words: &[u64; 128],
+    rows: &[u64; 2304],
+    moved: &[u64; 256],
+    x: usize,
+)
+    requires { ⌜ (k < 128) × (x < 128) × (ListN.length (now levels) ≡ 774) ⌝ }
+    ensures { λ _. ⌜ Level (now (rows .entry)) (now (moved .entry)) (now (words .entry)) x k (now (levels .entry)) (now (levels .exit)) ⌝ }
+{
+    let stand = insert(at(levels, SETS * k), x);
+    let before = at(levels, SETS * k + ENABLED);
+    let enabled = enabled_after(rows, moved, words, before, stand, x);
+    let open = open_after(rows, enabled, stand, x);
+    let level = SETS * (k + 1);
+    put(levels, level, stand);
+    put(levels, level + ENABLED, enabled);
+    put(levels, level + OPEN, open);
+}
+
+// Operation x as the entry at k, k as its place, what it writes, and the sets of the level behind it.
+fn add_entry(
+    position: &mut [u8],
+    k: usize,
+    places: &mut [u8],
+    levels: &mut [u64],
+    words: &mut [u64; 128],
+    replaced: &mut [u64],
+    rows: &[u64; 2304],
+    moved: &[u64; 256],
+    x: usize,
+)
+    requires { ⌜ (k < 128) × (x < 128) × (ListN.length (now position) ≡ 128) × (ListN.length (now places) ≡ 128) × (ListN.length (now levels) ≡ 774) × (ListN.length (now words) ≡ 128) × (ListN.length (now replaced) ≡ 128) ⌝ }
+    ensures { λ r. ⌜ (now (position .exit) ≡ set (now (position .entry)) k x) × (now (places .exit) ≡ set (now (places .entry)) x k) × (now (words .exit) ≡ wordsWith (now (rows .entry)) (now (words .entry)) x) × (now (replaced .exit) ≡ set (now (replaced .entry)) k (getD (now (words .entry)) (writtenWord (now (rows .entry)) x) 0)) × Level (now (rows .entry)) (now (moved .entry)) (now (words .exit)) x k (now (levels .entry)) (now (levels .exit)) ⌝ }
+{
+    position[k] = x as u8;
+    places[x] = k as u8;
+    replaced[k] = write(rows, words, x);
+    add_level(levels, k, words, rows, moved, x);
+}
+
+// Operation x, which is open at level k, as the entry at k, if it is not refused.
+pub fn enter(
+    position: &mut [u8; 128],
+    k: usize,
+    places: &mut [u8; 128],
+    levels: &mut [u64; 774],
+    words: &mut [u64; 128],
+    replaced: &mut [u64; 128],
+    rows: &[u64; 2304],
+    moved: &[u64; 256],
+    x: usize,
+) -> bool
+    requires { ⌜ (k < 128) × (x < 128) × (ListN.length (now position) ≡ 128) × (ListN.length (now places) ≡ 128) × (ListN.length (now words) ≡ 128) ⌝ }
+    ensures { λ r. ⌜ Entered (now (rows .entry)) (now (moved .entry)) x k r (now (position .entry)) (now (places .entry)) (now (levels .entry)) (now (words .entry)) (now (replaced .entry)) (now (position .exit)) (now (places .exit)) (now (levels .exit)) (now (words .exit)) (now (replaced .exit)) ⌝ }
+{
+    if is_refused(rows, places, at(levels, SETS * k), x) {
+        return false;
+    }
+    add_entry(position, k, places, levels, words, replaced, rows, moved, x);
+    true
+}
+
+// The operation of the entry at k, which has no place any more; what it wrote is undone.
+fn remove_entry(
+    position: &[u8],
+    k: usize,
+    places: &mut [u8],
+    words: &mut [u64],
+    replaced: &[u64],
+    rows: &[u64; 2304],
+) -> usize
+    requires { ⌜ (k < ListN.length (now position)) × (k < ListN.length (now replaced)) × (getD (now position) k 0 < 128) × (ListN.length (now places) ≡ 128) × (ListN.length (now words) ≡ 128) ⌝ }
+    ensures { λ r. ⌜ (r ≡ getD (now (position .entry)) k 0) × (now (places .exit) ≡ set (now (places .entry)) r 255) × (now (words .exit) ≡ set (now (words .entry)) (writtenWord (now (rows .entry)) r) (getD (now (replaced .entry)) k 0)) ⌝ }
+{
+    let last = wide(position[k]);
+    places[last] = ABSENT;
+    unwrite(rows, words, last, replaced[k]);
+    last
+}
+
+// From the first `length` entries of the position. `levels` has the sets of its first j entries as level j, `places` the places of all entries, `words`
+// what they wrote, and `replaced` the word that each wrote over. The next candidate is the lowest that is open, and not refused.
+pub fn walk(
+    n: usize,
+    position: &mut [u8; 128],
+    length: usize,
+    places: &mut [u8; 128],
+    levels: &mut [u64; 774],
+    words: &mut [u64; 128],
+    replaced: &mut [u64; 128],
+    rows: &[u64; 2304],
+    moved: &[u64; 256],
+) -> WalkAnswer
+    requires { ⌜ (n ≤ 128) × (length < n) × Kept n (now rows) (now position) (now places) (now levels) (now words) (now replaced) length × Moving n (now rows) (now moved) ⌝ }
+    requires { ⌜ (ListN.length (now position) ≡ 128) × (ListN.length (now places) ≡ 128) × (ListN.length (now words) ≡ 128) ⌝ }
+    ensures { λ r. ⌜ Walked n (now (rows .entry)) (take length (now (position .entry))) r (now (position .exit)) (now (places .exit)) (now (levels .exit)) (now (words .exit)) (now (replaced .exit)) ⌝ }
+{
+    let mut k = length;
+    let mut c = 0;
+    let mut candidates = at(levels, SETS * k + OPEN);
+    let mut turn = 0;
+    while turn < n * n {
+        let x = first(candidates, c);
+        if x < n {
+            if enter(position, k, places, levels, words, replaced, rows, moved, x) {
+                return WalkAnswer::Next(k + 1);
+            }
+            c = x + 1;
+        } else {
+            if k == 0 {
+                return WalkAnswer::End;
+            }
+            k -= 1;
+            c = remove_entry(position, k, places, words, replaced, rows) + 1;
+            candidates = at(levels, SETS * k + OPEN);
+        }
+        turn += 1;
+    }
+    WalkAnswer::End
+}
