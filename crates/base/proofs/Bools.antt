@@ -27,6 +27,9 @@ pub and-parts : (a b : Bool) → (a && b) ≡ true → (a ≡ true) × (b ≡ tr
 and-parts true b h = (refl, h)
 and-parts false b h = absurd (false≢true h)
 
+pub and-left : (a b : Bool) → (a && b) ≡ true → a ≡ true
+and-left a b h = and-parts a b h .0
+
 pub and-both : {a b : Bool} → a ≡ true → b ≡ true → (a && b) ≡ true
 and-both {a} {b} h k = rw h k
 

@@ -168,6 +168,16 @@ module _ {A : Type 0} where
       go true h = omega arith
       go false h = omega arith
 
+  -- an element by its place, and the place of an element
+  pub getD-member : (l : List A) (i : ℕ) (d : A) → i < length l → List·Memᴰ (getD l i d) l
+  getD-member [] i d h = absurd (omega arith)
+  getD-member (x ∷ l) zero d h = List·Memᴰ·head refl
+  getD-member (x ∷ l) (suc i) d h = List·Memᴰ·tail (getD-member l i d (omega arith))
+
+  pub place-of : (d : A) {a : A} {l : List A} → List·Memᴰ a l → (i : ℕ) × (i < length l) × (getD l i d ≡ a)
+  place-of d (List·Memᴰ·head e) = (0, omega arith, sym e)
+  place-of d (List·Memᴰ·tail m) = let (i, h, e) = place-of d m in (suc i, omega arith, e)
+
   -- an element that is there does not depend on what stands for one that is not
   pub getD-there : (l : List A) (i : ℕ) (d e : A) → i < length l → getD l i d ≡ getD l i e
   getD-there [] i d e h = absurd (omega arith)

@@ -1,9 +1,9 @@
 // The judge: whether an offered order is legal, or the lowest rule that it breaks.
 ghost use mathlib.Core.Path.{_≡_};
-ghost use Rattle.model.specs.Calls.{judgeCall};
-ghost use Rattle.model.proofs.Accepted.{Accepted};
+ghost use Rattle.model.specs.Calls.{judgeOrder, judgeCall};
+ghost use Rattle.model.specs.Accepted.{Accepted};
 ghost use Rattle.record_decoded.specs.Decoded.{executionOf};
-ghost use Rattle.judge_call.specs.Judgements.{judgementMeant, judged};
+ghost use Rattle.judge_call.specs.Judgements.{judgementMeant};
 use judge_rules::lowest::Lowest;
 use judge_rules::lowest::lowest_broken;
 use record_decoded::types::Execution;
@@ -22,7 +22,7 @@ pub enum Judgement {
 // What an order of an accepted execution comes to: questions 16 and 17, then the rules.
 fn judge_order(x: Execution, order: &[u8]) -> Judgement
     requires { ⌜ Accepted (executionOf x) ⌝ }
-    ensures { λ r. ⌜ judgementMeant r ≡ judged (executionOf x) (now (order .entry)) ⌝ }
+    ensures { λ r. ⌜ judgementMeant r ≡ judgeOrder (executionOf x) (now (order .entry)) ⌝ }
 {
     let t = operations_of(x.instructions, x.processors);
     let n = t.count;

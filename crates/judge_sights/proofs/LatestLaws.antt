@@ -16,9 +16,9 @@ use Rattle.relation_places.specs.Places.{placeFrom, placed, Placed}
 use Rattle.relation_places.proofs.PlaceLaws.{place-from, place-top, placed-short}
 
 -- the entries are different
-apart : List ℕ → Bool
-apart [] = true
-apart (x ∷ xs) = not (member xs x) && apart xs
+allDifferent : List ℕ → Bool
+allDifferent [] = true
+allDifferent (x ∷ xs) = not (member xs x) && allDifferent xs
 
 -- what has passed does not come again
 distinct-fresh : (n : ℕ) (passed xs : List ℕ) (a : ℕ) → distinct n passed xs ≡ true → member passed a ≡ true → member xs a ≡ false
@@ -31,21 +31,21 @@ distinct-fresh n passed (x ∷ xs) a h m =
     (λ t. clash (ap (member passed) (eqb-true x a t) ∙ m) (not-true (member passed x) h4))
     (λ f. rw f (distinct-fresh n (passed ++ (x ∷ [])) xs a h2 (member-append passed x a ∙ ap (λ (b : Bool). b || eqb x a) m)))
 
-distinct-apart : (n : ℕ) (passed xs : List ℕ) → distinct n passed xs ≡ true → apart xs ≡ true
-unfolding distinct apart
-distinct-apart n passed [] h = refl
-distinct-apart n passed (x ∷ xs) h =
+distinct-different : (n : ℕ) (passed xs : List ℕ) → distinct n passed xs ≡ true → allDifferent xs ≡ true
+unfolding distinct allDifferent
+distinct-different n passed [] h = refl
+distinct-different n passed (x ∷ xs) h =
     let (h1, h2) = and-parts (ltb x n && not (member passed x)) (distinct n (passed ++ (x ∷ [])) xs) h in
     and-both
     (ap not (distinct-fresh n (passed ++ (x ∷ [])) xs x h2
     (member-append passed x x ∙ ap (λ (b : Bool). member passed x || b) (eq-eqb x x refl) ∙ or-true (member passed x))))
-    (distinct-apart n (passed ++ (x ∷ [])) xs h2)
+    (distinct-different n (passed ++ (x ∷ [])) xs h2)
 
-apart-drop : (k : ℕ) (xs : List ℕ) → apart xs ≡ true → apart (drop k xs) ≡ true
-unfolding apart
-apart-drop zero xs h = h
-apart-drop (suc k) [] h = refl
-apart-drop (suc k) (x ∷ xs) h = apart-drop k xs (and-parts (not (member xs x)) (apart xs) h .1)
+different-drop : (k : ℕ) (xs : List ℕ) → allDifferent xs ≡ true → allDifferent (drop k xs) ≡ true
+unfolding allDifferent
+different-drop zero xs h = h
+different-drop (suc k) [] h = refl
+different-drop (suc k) (x ∷ xs) h = different-drop k xs (and-parts (not (member xs x)) (allDifferent xs) h .1)
 
 -- an operation that does not stand has no place
 place-absent : (k : ℕ) (xs : List ℕ) (o : ℕ) → member xs o ≡ false → placeFrom k xs o ≡ 255
@@ -62,14 +62,14 @@ either-way true k = refl
 either-way false k = refl
 
 -- the places of what is left after k entries
-place-drop : (j k : ℕ) (xs : List ℕ) (o : ℕ) → apart xs ≡ true → j + length xs ≤ 255
+place-drop : (j k : ℕ) (xs : List ℕ) (o : ℕ) → allDifferent xs ≡ true → j + length xs ≤ 255
     → placeFrom (j + k) (drop k xs) o ≡ cond (leb (j + k) (placeFrom j xs o)) (placeFrom j xs o) 255
-unfolding placeFrom apart
+unfolding placeFrom allDifferent
 place-drop j zero xs o h l =
     rw (let z : j + 0 ≡ j = omega arith in z, le-leb j (placeFrom j xs o) (place-from j xs o l))
 place-drop j (suc k) [] o h l = sym (either-way (leb (j + suc k) 255) 255)
 place-drop j (suc k) (x ∷ xs) o h l =
-    let (h1, h2) = and-parts (not (member xs x)) (apart xs) h in
+    let (h1, h2) = and-parts (not (member xs x)) (allDifferent xs) h in
     ap (λ (n : ℕ). placeFrom n (drop k xs) o) (let z : j + suc k ≡ suc j + k = omega arith in z)
     ∙ place-drop (suc j) k xs o h2 (omega arith)
     ∙ go (eqb x o) refl (not-true (member xs x) h1)
@@ -105,13 +105,13 @@ module _ (ws : List (ℕ × ℕ)) (r o v : ℕ) where
       go false e m ih = rw (← e) (ap (cond (eqb y r) d) (ih m))
 
   -- one that stands before r gives its byte to what comes after it
-  latest-one : (k d : ℕ) (ys : List ℕ) → apart ys ≡ true → k + length ys ≤ 255
+  latest-one : (k d : ℕ) (ys : List ℕ) → allDifferent ys ≡ true → k + length ys ≤ 255
       → latest ((o, v) ∷ ws) r d ys
       ≡ cond (ltb (placeFrom k ys o) (placeFrom k ys r)) (latest ws r v (drop (suc (placeFrom k ys o) - k) ys)) (latest ws r d ys)
-  unfolding latest byteOf placeFrom apart
+  unfolding latest byteOf placeFrom allDifferent
   latest-one k d [] h l = refl
   latest-one k d (y ∷ ys) h l =
-      let (h1, h2) = and-parts (not (member ys y)) (apart ys) h in
+      let (h1, h2) = and-parts (not (member ys y)) (allDifferent ys) h in
       go (eqb y r) (eqb y o) refl (eqb-swap y o) (not-true (member ys y) h1)
       (latest-one (suc k) (byteOf ws y d) ys h2 (omega arith)) (place-from (suc k) ys o (omega arith)) (place-from (suc k) ys r (omega arith))
     where
@@ -143,7 +143,7 @@ module _ {n : ℕ} {xs places : List ℕ} (h : Placed n xs places) where
   left : (next o : ℕ) → placeFrom next (drop next xs) o ≡ cond (leb next (placed places o)) (placed places o) 255
   left next o =
       ap (λ (k : ℕ). placeFrom k (drop next xs) o) (let z : next ≡ 0 + next = omega arith in z)
-      ∙ place-drop 0 next xs o (distinct-apart n [] xs (h .apart)) (omega (arith, placed-short h))
+      ∙ place-drop 0 next xs o (distinct-different n [] xs (h .different)) (omega (arith, placed-short h))
       ∙ ap₂ (λ (k p : ℕ). cond (leb k p) p 255) (let z : 0 + next ≡ next = omega arith in z) (sym (h .stands o))
 
   -- of what is left after `next` entries, one operation more
@@ -151,7 +151,7 @@ module _ {n : ℕ} {xs places : List ℕ} (h : Placed n xs places) where
       → latest ((o, v) ∷ ws) r d (drop next xs)
       ≡ cond (ltb (placed places o) (placed places r) && leb next (placed places o)) (latest ws r v (drop (placed places o + 1) xs)) (latest ws r d (drop next xs))
   latest-more ws r o v d next l =
-      latest-one ws r o v next d (drop next xs) (apart-drop next xs (distinct-apart n [] xs (h .apart)))
+      latest-one ws r o v next d (drop next xs) (different-drop next xs (distinct-different n [] xs (h .different)))
       (omega (arith, length-drop next xs, placed-short h, placed-top r))
       ∙ rw (left next r, left next o, le-leb next (placed places r) l) (go (leb next (placed places o)) refl)
     where

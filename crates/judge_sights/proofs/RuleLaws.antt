@@ -21,7 +21,7 @@ use Rattle.record_decoded.specs.Decoded.{instructionAt, instructionsOf, executi
 use Rattle.relation_places.specs.Places.{placed, Placed}
 use Rattle.relation_places.proofs.PlaceLaws.{before-placed, member-placed}
 use Rattle.judge_sights.specs.declared.Latest.{Latest}
-use Rattle.judge_sights.specs.Sights.{initialOf, dataByte, writesTo, ownOf, firstOf, remoteTo, mayGive, visibleBy, makesLocal, localBy, laterBy, latestWith, latestBy, readBy, sightBroken, loadBroken}
+use Rattle.judge_sights.specs.Sights.{initialOf, dataByte, writesTo, sameProcessor, firstOf, remoteTo, mayGive, visibleBy, makesLocal, localBy, laterBy, latestWith, latestBy, readBy, sightBroken, loadBroken}
 use Rattle.judge_sights.proofs.LatestLaws.{latest-nothing, latest-more}
 
 -- The stores to a byte, by their numbers
@@ -37,7 +37,7 @@ module _ (is : Instructions) (load address : ℕ) where
   -- a store as the load meets it
   writerAt : ℕ → Writer
   writerAt w = record {
-    own = ownOf is load w;
+    own = sameProcessor is load w;
     lv = firstOf is w;
     rv = remoteTo is load w;
     wrote = dataByte is w (address - instructionAt is w .address);
@@ -54,8 +54,8 @@ module _ (is : Instructions) (load address : ℕ) where
   unfolding writers entries writerAt mayGive visibleBy
   entries-local ks =
       ap (map (λ w. (w .lv, w .wrote))) (keep-map (λ w. w .own) writerAt (keep (writesTo is address) ks)
-      ∙ ap (map writerAt) (keep-keep (ownOf is load) (writesTo is address) ks))
-      ∙ map-map (λ w. (w .lv, w .wrote)) writerAt (keep (λ w. writesTo is address w && ownOf is load w) ks)
+      ∙ ap (map writerAt) (keep-keep (sameProcessor is load) (writesTo is address) ks))
+      ∙ map-map (λ w. (w .lv, w .wrote)) writerAt (keep (λ w. writesTo is address w && sameProcessor is load w) ks)
 
   entries-remote : (ks : List ℕ) → map (λ w. (w .rv, w .wrote)) (writers ks) ≡ entries false ks
   unfolding writers entries writerAt mayGive visibleBy
@@ -70,7 +70,7 @@ module _ (x : Execution) (load address : ℕ) where
   sight = sightOf (executionOf x) (instructionAt (x .instructions) load) address
 
   sight-writers : sight .writers ≡ writers (x .instructions) load address (below (x .instructions .count))
-  unfolding sight sightOf executionOf instructionsOf stores writers writerAt writesTo ownOf firstOf remoteTo dataByte
+  unfolding sight sightOf executionOf instructionsOf stores writers writerAt writesTo sameProcessor firstOf remoteTo dataByte
   sight-writers =
       ap (map (λ w. record {
         own = eqb (w .processor) (instructionAt (x .instructions) load .processor);
@@ -187,7 +187,7 @@ module _ {n : ℕ} {xs places : List ℕ} (h : Placed n xs places) where
     local-at : (w : ℕ) → (writesTo (x .instructions) address w && localTest (writerAt (x .instructions) load address w)) ≡ makesLocal (x .instructions) places load address w
     unfolding localTest writerAt makesLocal
     local-at w =
-        ap₂ (λ (s t : Bool). writesTo (x .instructions) address w && (ownOf (x .instructions) load w && (s && t)))
+        ap₂ (λ (s t : Bool). writesTo (x .instructions) address w && (sameProcessor (x .instructions) load w && (s && t)))
         (before-placed h (firstOf (x .instructions) w) (firstOf (x .instructions) load))
         (before-placed h (firstOf (x .instructions) load) (remoteTo (x .instructions) load w))
 

@@ -20,7 +20,7 @@ use Rattle.record_decoded.specs.Decoded.{eight, lineAt, linesOf, instructionAt}
 use Rattle.record_decoded.proofs.Arrays.{lines-length}
 use Rattle.relation_places.specs.Places.{placed}
 use Rattle.judge_sights.specs.declared.Latest.{Latest}
-use Rattle.judge_sights.specs.Sights.{initialOf, dataByte, writesTo, ownOf, firstOf, remoteTo, makesLocal, mayGive, visibleBy, laterBy, latestWith, readBy, sightBroken, loadBroken}
+use Rattle.judge_sights.specs.Sights.{initialOf, dataByte, writesTo, sameProcessor, firstOf, remoteTo, makesLocal, mayGive, visibleBy, laterBy, latestWith, readBy, sightBroken, loadBroken}
 
 -- the initial byte of an address past the lines, and of one in them
 module _ (x : Lines) (address : ℕ) where
@@ -103,7 +103,7 @@ module _ (is : Instructions) (places : List ℕ) (load address : ℕ) (local : B
 pub gives-from : (is : Instructions) (load address : ℕ) (local : Bool) (w from : ℕ) → from ≡ getD (is .addresses) w 0 → mayGive is load address local w ≡ true → from ≤ address
 unfolding mayGive writesTo accesses instructionAt
 gives-from is load address local w from f h =
-    let m = and-parts (writesTo is address w) (not local || ownOf is load w) h in
+    let m = and-parts (writesTo is address w) (not local || sameProcessor is load w) h in
     let a = and-parts (isStore (instructionAt is w .kind)) (accesses (instructionAt is w) address) (m .0) in
     let l = and-parts (leb (getD (is .addresses) w 0) address) (ltb address (getD (is .addresses) w 0 + getD (is .sizes) w 0)) (a .1) in
     omega (arith, leb-true (getD (is .addresses) w 0) address (l .0))
@@ -114,7 +114,7 @@ module _ (is : Instructions) (places : List ℕ) (load address w : ℕ) where
   unfolding makesLocal
   local-none h = rw h
 
-  pub local-other : ownOf is load w ≡ false → false ≡ makesLocal is places load address w
+  pub local-other : sameProcessor is load w ≡ false → false ≡ makesLocal is places load address w
   unfolding makesLocal
   local-other h = rw h (sym (and-false (writesTo is address w)))
 
@@ -122,9 +122,9 @@ module _ (is : Instructions) (places : List ℕ) (load address w : ℕ) where
     pub local-late : ltb (placed places lv) (placed places r) ≡ false → false ≡ makesLocal is places load address w
     unfolding makesLocal
     local-late h =
-        rw (← lv-is, ← r-is, h, and-false (ownOf is load w)) (sym (and-false (writesTo is address w)))
+        rw (← lv-is, ← r-is, h, and-false (sameProcessor is load w)) (sym (and-false (writesTo is address w)))
 
-    pub local-is : writesTo is address w ≡ true → ownOf is load w ≡ true → ltb (placed places lv) (placed places r) ≡ true
+    pub local-is : writesTo is address w ≡ true → sameProcessor is load w ≡ true → ltb (placed places lv) (placed places r) ≡ true
         → (rv : ℕ) → rv ≡ remoteTo is load w → ltb (placed places r) (placed places rv) ≡ makesLocal is places load address w
     unfolding makesLocal
     local-is h k l rv rv-is = rw (← lv-is, ← r-is, ← rv-is, h, k, l)

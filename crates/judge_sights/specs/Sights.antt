@@ -29,8 +29,8 @@ module _ (is : Instructions) where
   writesTo address w = isStore (instructionAt is w .kind) && accesses (instructionAt is w) address
 
   -- instruction w is of the load's processor
-  unfoldable pub ownOf : ℕ → ℕ → Bool
-  ownOf load w = eqb (instructionAt is w .processor) (instructionAt is load .processor)
+  unfoldable pub sameProcessor : ℕ → ℕ → Bool
+  sameProcessor load w = eqb (instructionAt is w .processor) (instructionAt is load .processor)
 
   -- the number of a load's R or a store's LV
   unfoldable pub firstOf : ℕ → ℕ
@@ -42,7 +42,7 @@ module _ (is : Instructions) where
 
   -- store w may give the load its byte: a local load takes none but its own processor's
   unfoldable pub mayGive : ℕ → ℕ → Bool → ℕ → Bool
-  mayGive load address local w = writesTo address w && (not local || ownOf load w)
+  mayGive load address local w = writesTo address w && (not local || sameProcessor load w)
 
   -- the operation that makes store w visible to the load
   unfoldable pub visibleBy : ℕ → Bool → ℕ → ℕ
@@ -53,7 +53,7 @@ module _ (is : Instructions) (places : List ℕ) (load address : ℕ) where
   unfoldable pub makesLocal : ℕ → Bool
   makesLocal w =
       writesTo is address w
-      && (ownOf is load w
+      && (sameProcessor is load w
       && (ltb (placed places (firstOf is w)) (placed places (firstOf is load))
       && ltb (placed places (firstOf is load)) (placed places (remoteTo is load w))))
 

@@ -7,7 +7,7 @@ ghost use Rattle.base.specs.Lists.{any};
 ghost use Rattle.model.specs.Rules.{rule11, broken};
 ghost use Rattle.record_decoded.specs.Decoded.{executionOf};
 ghost use Rattle.relation_places.specs.Places.{Placed};
-ghost use Rattle.judge_sights.specs.Sights.{initialOf, dataByte, writesTo, ownOf, firstOf, remoteTo, mayGive, visibleBy, makesLocal, localBy, latestWith, latestBy, readBy, sightBroken, loadBroken};
+ghost use Rattle.judge_sights.specs.Sights.{initialOf, dataByte, writesTo, sameProcessor, firstOf, remoteTo, mayGive, visibleBy, makesLocal, localBy, latestWith, latestBy, readBy, sightBroken, loadBroken};
 use record_decoded::kind::is_load;
 use record_decoded::kind::is_store;
 use record_decoded::kind::kind_of;
@@ -114,7 +114,7 @@ fn writes_to(is: Instructions, w: usize, address: usize) -> bool
 // Whether instruction w is of the load's processor.
 fn own_of(is: Instructions, w: usize, load: usize) -> bool
     requires { ⌜ (w < 40) × (load < 40) ⌝ }
-    ensures { λ r. ⌜ r ≡ ownOf is load w ⌝ }
+    ensures { λ r. ⌜ r ≡ sameProcessor is load w ⌝ }
 {
     let processors = is.processors;
     processors[w] == processors[load]

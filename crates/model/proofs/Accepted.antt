@@ -12,23 +12,24 @@ use Rattle.base.specs.Lists.{all}
 use Rattle.base.proofs.Bools.{split, and-parts}
 use Rattle.base.proofs.Lists.{member-in, all-member}
 use Rattle.model.specs.Execution.{Kind, kindOf, isFence, Instruction, Execution, roles, operationCount, operations, Line}
+use Rattle.model.specs.Accepted.{Consecutive, Sound, Each, Rises, Accepted}
 use Rattle.model.specs.Calls.{says, refuses, answerOf, readAll}
 use Rattle.model.specs.Questions.{Found, no-to, found, Reader, next, item, byte, ask, many, question2, question3, question5, question7, question8, question11, question12, question13, instructionOf, readLine, readLines, readInstruction, readProgram, readPrograms, readInstructions, readPair, readPairs, question15, readRecord}
 
 -- Steps of a walk that found something
 
 module _ {A B : Type 0} where
-  came : (m : Found A) (f : A → Reader B) (v : B) (r : List ℕ) → next m f ≡ found v r
+  pub came : (m : Found A) (f : A → Reader B) (v : B) (r : List ℕ) → next m f ≡ found v r
       → (a : A) × (bytes : List ℕ) × (m ≡ found a bytes) × (f a bytes ≡ found v r)
   unfolding next
   came (no-to q) f v r h = let z : _≡_ {A = ℕ} 0 1 = cc in absurd (omega arith)
   came (found a bytes) f v r h = (a, bytes, refl, h)
 
-  step : {C : Type 0} (m : Found A) (f : A → Reader B) (v : B) (r : List ℕ) → next m f ≡ found v r
+  pub step : {C : Type 0} (m : Found A) (f : A → Reader B) (v : B) (r : List ℕ) → next m f ≡ found v r
       → ((a : A) (bytes : List ℕ) → m ≡ found a bytes → f a bytes ≡ found v r → C) → C
   step m f v r h k = let (a, bytes, e, g) = came m f v r h in k a bytes e g
 
-asked : (q : ℕ) (b : Bool) (bytes : List ℕ) (u : Unit {0}) (r : List ℕ) → ask q b bytes ≡ found u r → b ≡ true
+pub asked : (q : ℕ) (b : Bool) (bytes : List ℕ) (u : Unit {0}) (r : List ℕ) → ask q b bytes ≡ found u r → b ≡ true
 unfolding ask
 asked q true bytes u r h = refl
 asked q false bytes u r h = let z : _≡_ {A = ℕ} 0 1 = cc in absurd (omega arith)
@@ -59,30 +60,14 @@ module _ {A : Type 0} (read : List A → Reader A) where
       let (a, rest, e, k) = came (read done bytes) _ out r h in
       omega (arith, many-length n (done ++ (a ∷ [])) rest out r k, length-append done (a ∷ []))
 
--- Instructions numbered from n on, their operations from `at` on
-abbrev pub Laid : ℕ → ℕ → ℕ → List Instruction → Type 0
-Laid p at n [] = Unit {0}
-Laid p at n (i ∷ is) = (i .first ≡ at) × (i .number ≡ n) × Laid p (at + length (roles p (i .kind))) (suc n) is
-
-laid-more : (p at n : ℕ) (is : List Instruction) (i : Instruction) → Laid p at n is → i .first ≡ at + operationCount p is → i .number ≡ n + length is
-    → Laid p at n (is ++ (i ∷ []))
+consecutive-more : (p at n : ℕ) (is : List Instruction) (i : Instruction) → Consecutive p at n is → i .first ≡ at + operationCount p is → i .number ≡ n + length is
+    → Consecutive p at n (is ++ (i ∷ []))
 unfolding operationCount
-laid-more p at n [] i l f m = (omega arith, omega arith, tt)
-laid-more p at n (j ∷ is) i l f m =
-    (l .0, l .1, laid-more p (at + length (roles p (j .kind))) (suc n) is i (l .2) (omega arith) (omega arith))
-
--- an instruction that passed its questions
-pub record Sound (processors lines : ℕ) (i : Instruction) : Type 0 where
-  pub own : i .processor < processors
-  pub size-passed : question7 (i .kind) (i .size) ≡ true
-  pub address-passed : question8 lines (i .kind) (i .size) (i .address) ≡ true
-  pub bytes-length : length (i .bytes) ≡ i .size
+consecutive-more p at n [] i l f m = (omega arith, omega arith, tt)
+consecutive-more p at n (j ∷ is) i l f m =
+    (l .0, l .1, consecutive-more p (at + length (roles p (j .kind))) (suc n) is i (l .2) (omega arith) (omega arith))
 
 module _ {A : Type 0} where
-  abbrev pub Each : (A → Type 0) → List A → Type 0
-  Each P [] = Unit {0}
-  Each P (x ∷ xs) = P x × Each P xs
-
   each-more : (P : A → Type 0) (l : List A) (a : A) → Each P l → P a → Each P (l ++ (a ∷ []))
   each-more P [] a h k = (k, tt)
   each-more P (x ∷ l) a h k = (h .0, each-more P l a (h .1) k)
@@ -99,7 +84,7 @@ size-small k size q = leb-true size 8 (split (isFence k)
     (λ h. all-member (λ n. leb n 8) (member-in (1 ∷ 2 ∷ 4 ∷ 8 ∷ []) size (rw h at q)) refl))
 
 abbrev Read : ℕ → ℕ → List Instruction → Type 0
-Read processors lines is = Laid processors 0 0 is × Each (Sound processors lines) is
+Read processors lines is = Consecutive processors 0 0 is × Each (Sound processors lines) is
 
 module _ (processors lines : ℕ) where
   module _ (p : ℕ) (own : p < processors) where
@@ -118,7 +103,7 @@ module _ (processors lines : ℕ) where
     unfolding instructionOf
     more done x i inv e s =
         subst (λ (j : Instruction). Read processors lines (done ++ (j ∷ []))) e
-        (laid-more processors 0 0 done _ (inv .0) (omega arith) (omega arith), each-more (Sound processors lines) done _ (inv .1) s)
+        (consecutive-more processors 0 0 done _ (inv .0) (omega arith) (omega arith), each-more (Sound processors lines) done _ (inv .1) s)
 
     instruction-keeps : (done : List Instruction) (bytes : List ℕ) (i : Instruction) (r : List ℕ)
         → Read processors lines done → readInstruction processors lines p done bytes ≡ found i r → Read processors lines (done ++ (i ∷ []))
@@ -157,10 +142,6 @@ module _ (processors lines : ℕ) where
       let (inv′, short′) = program-keeps p (omega arith) done bytes more rest inv e in
       programs-keep (suc p) left more rest out r (omega arith) inv′ short′ k
 
--- the first instruction of a pair is the earlier one
-abbrev pub Rises : ℕ × ℕ → Type 0
-Rises p = p .0 < p .1
-
 pair-keeps : (is : List Instruction) (done : List (ℕ × ℕ)) (bytes : List ℕ) (p : ℕ × ℕ) (r : List ℕ)
     → Each Rises done → readPair is done bytes ≡ found p r → Each Rises (done ++ (p ∷ []))
 unfolding readPair question13
@@ -180,18 +161,6 @@ pairs-rise is bytes pairs r h =
     step (byte bytes) _ pairs r h (λ n b1 e1 h1.
     step (ask 12 _ b1) _ pairs r h1 (λ u2 b2 e2 h2.
     many-keeps (readPair is) (Each Rises) (pair-keeps is) n [] b2 pairs r tt h2))
-
--- What an accepted record gives
-pub record Accepted (e : Execution) : Type 0 where
-  pub processors-few : e .processors ≤ 8
-  pub lines-some : 1 ≤ length (e .lines)
-  pub lines-few : length (e .lines) ≤ 8
-  pub instructions-few : length (e .instructions) ≤ 40
-  pub operations-few : operations e ≤ 128
-  pub pairs-few : length (e .pairs) ≤ 40
-  pub laid : Laid (e .processors) 0 0 (e .instructions)
-  pub sound : Each (Sound (e .processors) (length (e .lines))) (e .instructions)
-  pub rising : Each Rises (e .pairs)
 
 lines-counted : (bytes : List ℕ) (lines : List Line) (r : List ℕ) → readLines bytes ≡ found lines r → (1 ≤ length lines) × (length lines ≤ 8)
 unfolding readLines question3
@@ -233,7 +202,7 @@ accepted bytes e rest h =
       instructions-few = subst (λ (l : List Instruction). length l ≤ 40) w short;
       operations-few = subst (λ (l : List Instruction). operationCount p l ≤ 128) w (leb-true (operationCount p js) 128 (asked 11 (leb (operationCount p js) 128) b8 u9 b9 e9));
       pairs-few = pairs-counted is b4 pairs b5 e5;
-      laid = subst (Laid p 0 0) w (inv .0);
+      consecutive = subst (Consecutive p 0 0) w (inv .0);
       sound = subst (Each (Sound p (length lines))) w (inv .1);
       rising = pairs-rise is b4 pairs b5 e5;
     }))))))))))

@@ -1,18 +1,21 @@
 -- A prefix breaks no rule exactly when it is consistent; so an order of all operations is judged legal exactly when it is consistent.
 use Prim.Native.Nat.{ℕ, suc}
+use native.Mathlib.Omega.{arith}
 use mathlib.Core.Path.{_≡_, refl, ap, _∙_}
 use mathlib.Core.Bool.{Bool, true, false, not, cond, _||_}
 use mathlib.Core.List.{List, [], _∷_, List·Memᴰ}
 use mathlib.Core.Logic.{_↔_}
 use mathlib.Core.Option.{some}
 use lib.ListN.{length}
-use borrow.Author.Tests.{eq-eqb}
+use lib.Dec.{eqb}
+use borrow.Author.Tests.{eq-eqb, eqb-true}
 use Rattle.base.specs.Lists.{any, distinct}
+use Rattle.base.proofs.Bools.{split}
 use Rattle.model.specs.Execution.{Execution, operations}
-use Rattle.model.specs.Questions.{found, next, ask, readRecord}
+use Rattle.model.specs.Questions.{found, readRecord}
 use Rattle.model.specs.Rules.{Claim, broken, lowestFrom, lowestBroken, rules, keeps, consistent}
 use Rattle.model.specs.Search.{prefixes}
-use Rattle.model.specs.Calls.{says, answerOf, legal, judgementOf, judging, judgeCall}
+use Rattle.model.specs.Calls.{Judgement, Answer, says, refuses, Legal, andThen, asks, answerOf, readAll, legal, judgementOf, judgeOrder, judgeCall}
 use Rattle.model.proofs.Consistent.{keeps-shorter, keeps-empty}
 use Rattle.model.proofs.Prefixes.{Ascending, prefixes-ascend, prefixes-are}
 
@@ -27,12 +30,24 @@ lowest-keeps k (r ∷ rs) xs = go (any (broken xs) r) (lowest-keeps (suc k) rs x
     go true ih = (λ h. cc, λ h. cc)
     go false ih = ih
 
+-- a refusal is not 'legal'
+refusal : {C : Type 0} {q : ℕ} → _≡_ {A = Answer Judgement} (refuses q) (says legal) → C
+refusal h = let z : _≡_ {A = ℕ} 0 1 = cc in absurd (omega arith)
+
 module _ (bytes : List ℕ) (e : Execution) (rest : List ℕ) (read : readRecord bytes ≡ found e rest) where
   -- the judge of an offered order that passes questions 16 and 17
   pub judge-order : (order : List ℕ) → length order ≡ operations e → distinct (operations e) [] order ≡ true
       → judgeCall bytes order ≡ says (judgementOf (lowestBroken e order))
-  unfolding judgeCall judging answerOf next ask
+  unfolding judgeCall readAll judgeOrder answerOf andThen asks
   judge-order order l d = rw (read, eq-eqb (length order) (operations e) l, d)
+
+  -- an order that the judge calls legal passes questions 16 and 17
+  pub legal-passes : (order : List ℕ) → Legal bytes order → (length order ≡ operations e) × (distinct (operations e) [] order ≡ true)
+  unfolding judgeCall readAll judgeOrder answerOf andThen asks
+  legal-passes order h =
+      split (eqb (length order) (operations e))
+      (λ p. split (distinct (operations e) [] order) (λ q. (eqb-true (length order) (operations e) p, q)) (λ q. refusal (rw (read, p, q) at h)))
+      (λ p. refusal (rw (read, p) at h))
 
   -- full and consistent is legal
   pub legal-consistent : (order : List ℕ) → length order ≡ operations e → distinct (operations e) [] order ≡ true

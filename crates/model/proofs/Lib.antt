@@ -3,6 +3,7 @@ pub mod Tables
 pub mod Before
 pub mod Consistent
 pub mod Prefixes
+pub mod Asking
 pub mod Legal
 pub mod ProgramOrder
 pub mod Accepted

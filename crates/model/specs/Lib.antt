@@ -6,7 +6,8 @@ pub mod ProgramOrder
 pub mod Search
 pub mod Chains
 pub mod Calls
-pub mod PointThree
+pub mod Accepted
+pub mod Courses
 pub mod Verdict
 pub mod Notation
 pub mod Rows

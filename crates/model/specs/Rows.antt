@@ -6,7 +6,7 @@ use lib.ListN.{length, take, drop, replicate}
 use Rattle.base.specs.Lists.{below}
 use Rattle.model.specs.Search.{Verdict}
 use Rattle.model.specs.Calls.{Answer, says, refuses, Judgement, judgeCall, SearchReply, searchCall, done, TableReply, tableCall}
-use Rattle.model.specs.PointThree.{Call, Course, start, course}
+use Rattle.model.specs.Courses.{Call, Course, start, course}
 use Rattle.model.specs.Verdict.{verdictLines}
 
 -- a buffer to lend, and the same with a position at its front
@@ -32,7 +32,7 @@ pub data Result : Type 0 where
   replied : SearchReply → Result
   filled : TableReply → Result
   output : List ℕ → Result
-  came : Course → Result
+  followed-to : Course → Result
 
 -- what the call answers
 unfoldable pub made : Row → Result
@@ -43,7 +43,7 @@ made (searched-no bytes buffer saved q) = replied (searchCall bytes buffer saved
 made (tabled bytes marks) = filled (tableCall bytes (replicate (length marks) 7 ++ lent))
 made (tabled-no bytes table q) = filled (tableCall bytes table)
 made (printed input text) = output (verdictLines input)
-made (followed bytes calls t) = came (course bytes calls (start lent))
+made (followed bytes calls t) = followed-to (course bytes calls (start lent))
 made (cut bytes q) = judgements (map (λ n. judgeCall (take n bytes) []) (below (length bytes)))
 
 -- what it must answer
@@ -57,9 +57,9 @@ wanted (searched-no bytes buffer saved q) =
 wanted (tabled bytes marks) = filled (record { answer = says done; table = marks ++ lent })
 wanted (tabled-no bytes table q) = filled (record { answer = refuses q; table = table })
 wanted (printed input text) = output text
-wanted (followed bytes calls t) = came t
+wanted (followed bytes calls t) = followed-to t
 wanted (cut bytes q) = judgements (replicate (length bytes) (refuses q))
 
 -- every row of a table holds
-abbrev pub Holds : List Row → Type 0
-Holds rows = map made rows ≡ map wanted rows
+abbrev pub RowsHold : List Row → Type 0
+RowsHold rows = map made rows ≡ map wanted rows

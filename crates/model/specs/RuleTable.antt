@@ -6,7 +6,7 @@ use mathlib.Core.Option.{some}
 use lib.ListN.{replicate}
 use Rattle.model.specs.Search.{allowed, forbidden}
 use Rattle.model.specs.Calls.{says, legal, breaks}
-use Rattle.model.specs.PointThree.{proper, other}
+use Rattle.model.specs.Courses.{proper, other}
 use Rattle.model.specs.Notation.{x, y, wb, uc, wc, ld, ld-acq, st, st-rel, mf, recordOf}
 use Rattle.model.specs.Rows.{Row, judged, searched, searched-no, tabled, followed}
 use Rattle.model.specs.PaperTable.{k1, k2}

@@ -8,7 +8,9 @@ use lib.ListN.{length, getD, length-map}
 use Rattle.base.specs.Lists.{below}
 use Rattle.base.proofs.Lists.{length-count, getD-below}
 use Rattle.record_decoded.specs.Kinds.{roleNumbered}
-use Rattle.model.specs.Execution.{Kind, ld, ld-acq, st, st-rel, mf, R, LV, F, RV, isLoad, isStore, roles}
+use Rattle.record_decoded.specs.Decoded.{instructionsOf, executionOf}
+use Rattle.record_decoded.specs.declared.types.Execution.{Execution}
+use Rattle.model.specs.Execution.{Kind, ld, ld-acq, st, st-rel, mf, R, LV, F, RV, isLoad, isStore, roles, operationCount, operations}
 
 pub store-operations : (p : ℕ) (k : Kind) → isStore k ≡ true → 1 + p ≡ length (roles p k)
 unfolding roles below
@@ -65,3 +67,8 @@ fence-only p mf place h e l = ap (λ (n : ℕ). getD (F ∷ []) n F) (let z : 0 
 
 pub remote-numbered : (q : ℕ) → roleNumbered (3 + q) ≡ RV q
 remote-numbered q = ap roleNumbered (let z : 3 + q ≡ suc (suc (suc q)) = omega arith in z)
+
+-- N, as the arrays count it
+pub count-is : (x : Execution) (k : ℕ) → k ≡ operationCount (x .processors) (instructionsOf (x .instructions)) → k ≡ operations (executionOf x)
+unfolding operations executionOf
+count-is x k h = h

@@ -12,7 +12,7 @@ use Rattle.record_decoded.specs.declared.types.Asked.{Asked}
 use Rattle.record_decoded.specs.declared.types.Asked.the-variants.{Pass, Fail}
 use Rattle.record_decoded.specs.declared.types.Step.{Step}
 use Rattle.record_decoded.specs.declared.types.Step.the-variants.{Refused, Next}
-use Rattle.record_decoded.specs.Steps.{Walked, foundIf, Answered}
+use Rattle.record_decoded.specs.Steps.{ComesTo, foundIf, Answered}
 
 -- question 1, for an item of k bytes at `at`
 pub item-short : (k at : ℕ) (part : List ℕ) → length part - at < k → item k (drop at part) ≡ no-to 1
@@ -83,14 +83,14 @@ module _ {A : Type 0} {read : List A → Reader A} {whole : Found (List A)} {par
       decides = turn ∙ ap (λ (r : Asked). next (foundIf r value (drop (at + size) part)) (λ b. many read (n - (i + 1)) (done ++ (b ∷ [])))) e;
     }
 
-    pub going-fails : {q : ℕ} {other : List A} → r ≡ Fail q → Walked whole part (Refused q) other
+    pub going-fails : {q : ℕ} {other : List A} → r ≡ Fail q → ComesTo whole part (Refused q) other
     unfolding next
     going-fails {q} {other} e = record {
       is = turn ∙ ap (λ (r : Asked). next (foundIf r value (drop (at + size) part)) (λ b. many read (n - (i + 1)) (done ++ (b ∷ [])))) e;
       within = λ k f. let z : _≡_ {A = ℕ} 0 1 = cc in absurd (omega arith);
     }
 
-  pub going-ends : n ≤ i → Walked whole part (Next at) done
+  pub going-ends : n ≤ i → ComesTo whole part (Next at) done
   unfolding many
   going-ends h = record {
     is = inv .decides ∙ ap (λ (k : ℕ). many read k done (drop at part)) (let z : n - i ≡ 0 = omega arith in z);
@@ -98,9 +98,9 @@ module _ {A : Type 0} {read : List A → Reader A} {whole : Found (List A)} {par
   }
 
 -- a walk that a question ends
-pub refused-walk : {A : Type 0} {walk : Found A} {part : List ℕ} {q : ℕ} {value : A} → walk ≡ no-to q → Walked walk part (Refused q) value
+pub refused-walk : {A : Type 0} {walk : Found A} {part : List ℕ} {q : ℕ} {value : A} → walk ≡ no-to q → ComesTo walk part (Refused q) value
 refused-walk {A} {walk} {part} {q} {value} h = record { is = h; within = λ k e. let z : _≡_ {A = ℕ} 0 1 = cc in absurd (omega arith) }
 
 -- a walk that goes on as another
-pub same-walk : {A : Type 0} {walk other : Found A} {part : List ℕ} {step : Step} {value : A} → walk ≡ other → Walked other part step value → Walked walk part step value
+pub same-walk : {A : Type 0} {walk other : Found A} {part : List ℕ} {step : Step} {value : A} → walk ≡ other → ComesTo other part step value → ComesTo walk part step value
 same-walk {A} {walk} {other} {part} {step} {value} h w = record { is = h ∙ w .is; within = w .within }

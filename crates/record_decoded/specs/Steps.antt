@@ -19,7 +19,7 @@ module _ {A : Type 0} where
   foundBy part (Next k) a = found a (drop k part)
 
 -- The walk comes to the step and the value, and a step to the next index stays within the part.
-pub record Walked {A : Type 0} (walk : Found A) (part : List ℕ) (step : Step) (value : A) : Type 0 where
+pub record ComesTo {A : Type 0} (walk : Found A) (part : List ℕ) (step : Step) (value : A) : Type 0 where
   pub is : walk ≡ foundBy part step value
   pub within : (k : ℕ) → step ≡ Next k → k ≤ length part
 
@@ -35,8 +35,8 @@ pub record Answered {A : Type 0} (walk : Found A) (part : List ℕ) (at size : �
   pub ends : asked ≡ Pass → at + size ≤ length part
 
 -- A walk over instructions, whose arrays stay counted
-pub record InstructionsWalked (processors : ℕ) (walk : Found (List Instruction)) (part : List ℕ) (step : Step) (value : Instructions) : Type 0 where
-  pub walked : Walked walk part step (instructionsOf value)
+pub record InstructionsComeTo (processors : ℕ) (walk : Found (List Instruction)) (part : List ℕ) (step : Step) (value : Instructions) : Type 0 where
+  pub walked : ComesTo walk part step (instructionsOf value)
   pub counts : Counted processors value
 
 -- One instruction more: the arrays hold it after those before it, and count its operations.

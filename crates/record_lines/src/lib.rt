@@ -5,7 +5,7 @@ ghost use Prim.Native.Nat.{_+_, _<_, _≤_};
 ghost use lib.ListN.{length, take, drop};
 ghost use Rattle.model.specs.Questions.{lineLength, lineOf, readLine, readLines, many};
 ghost use Rattle.record_decoded.specs.Decoded.{linesOf};
-ghost use Rattle.record_decoded.specs.Steps.{Answered, Walked};
+ghost use Rattle.record_decoded.specs.Steps.{Answered, ComesTo};
 use record_decoded::types::Asked;
 use record_decoded::types::LINE_LENGTH;
 use record_decoded::types::Lines;
@@ -63,7 +63,7 @@ fn with_line(x: Lines, part: &[u8], at: usize) -> Lines
 // So many lines, after their count.
 fn line_entries(part: &[u8], n: u8) -> LinesRead
     requires { ⌜ (n ≤ 8) × (1 ≤ length (now part)) ⌝ }
-    ensures { λ r. ⌜ Walked (many (λ done. readLine) n [] (drop 1 (now (part .entry)))) (now (part .entry)) (r .step) (linesOf (r .lines)) × (r .lines .count ≤ 8) ⌝ }
+    ensures { λ r. ⌜ ComesTo (many (λ done. readLine) n [] (drop 1 (now (part .entry)))) (now (part .entry)) (r .step) (linesOf (r .lines)) × (r .lines .count ≤ 8) ⌝ }
 {
     let mut lines = no_lines();
     let mut at = 1;
@@ -90,7 +90,7 @@ fn line_entries(part: &[u8], n: u8) -> LinesRead
 
 // The lines, from their count on.
 pub fn read_lines(part: &[u8]) -> LinesRead
-    ensures { λ r. ⌜ Walked (readLines (now (part .entry))) (now (part .entry)) (r .step) (linesOf (r .lines)) × (r .lines .count ≤ 8) ⌝ }
+    ensures { λ r. ⌜ ComesTo (readLines (now (part .entry))) (now (part .entry)) (r .step) (linesOf (r .lines)) × (r .lines .count ≤ 8) ⌝ }
 {
     if part.len() < 1 {
         return LinesRead {

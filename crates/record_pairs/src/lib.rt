@@ -5,7 +5,7 @@ ghost use Prim.Native.Nat.{_+_, _<_, _≤_};
 ghost use lib.ListN.{length, drop};
 ghost use Rattle.model.specs.Questions.{pairLength, question13, question14, readPair, readPairs, many};
 ghost use Rattle.record_decoded.specs.Decoded.{instructionsOf, pairOf, pairsOf};
-ghost use Rattle.record_decoded.specs.Steps.{Answered, Walked};
+ghost use Rattle.record_decoded.specs.Steps.{Answered, ComesTo};
 use record_decoded::kind::is_fence;
 use record_decoded::kind::is_store;
 use record_decoded::kind::kind_of;
@@ -129,7 +129,7 @@ fn with_pair(x: Pairs, part: &[u8], at: usize) -> Pairs
 // So many pairs, after their count.
 fn pair_entries(part: &[u8], n: u8, is: Instructions) -> PairsRead
     requires { ⌜ (n ≤ 40) × (1 ≤ length (now part)) × (is .count ≤ 40) ⌝ }
-    ensures { λ r. ⌜ Walked (many (readPair (instructionsOf is)) n [] (drop 1 (now (part .entry)))) (now (part .entry)) (r .step) (pairsOf (r .pairs)) ⌝ }
+    ensures { λ r. ⌜ ComesTo (many (readPair (instructionsOf is)) n [] (drop 1 (now (part .entry)))) (now (part .entry)) (r .step) (pairsOf (r .pairs)) ⌝ }
 {
     let mut pairs = no_pairs();
     let mut at = 1;
@@ -157,7 +157,7 @@ fn pair_entries(part: &[u8], n: u8, is: Instructions) -> PairsRead
 // The pairs, from their count on.
 pub fn read_pairs(part: &[u8], is: Instructions) -> PairsRead
     requires { ⌜ is .count ≤ 40 ⌝ }
-    ensures { λ r. ⌜ Walked (readPairs (instructionsOf is) (now (part .entry))) (now (part .entry)) (r .step) (pairsOf (r .pairs)) ⌝ }
+    ensures { λ r. ⌜ ComesTo (readPairs (instructionsOf is) (now (part .entry))) (now (part .entry)) (r .step) (pairsOf (r .pairs)) ⌝ }
 {
     if part.len() < 1 {
         return PairsRead {

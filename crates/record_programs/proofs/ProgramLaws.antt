@@ -13,7 +13,7 @@ use Rattle.record_decoded.specs.declared.types.Step.{Step}
 use Rattle.record_decoded.specs.declared.types.Step.the-variants.{Refused, Next}
 use Rattle.record_decoded.specs.declared.types.Instructions.{Instructions}
 use Rattle.record_decoded.specs.Decoded.{instructionsOf, Counted}
-use Rattle.record_decoded.specs.Steps.{foundBy, Walked}
+use Rattle.record_decoded.specs.Steps.{foundBy, ComesTo}
 use Rattle.record_decoded.proofs.Items.{byte-short, byte-there}
 
 module _ (processors lines p : ℕ) (done : List Instruction) (part : List ℕ) where
@@ -55,7 +55,7 @@ programs-start {processors} {lines} {part} {done} e = record {
 
 module _ {processors lines p at : ℕ} {part : List ℕ} {done : List Instruction} (inv : Programs processors lines part p at done) where
   module _ {s : List ℕ} {step : Step} {value : List Instruction} (more : p < processors) (here : s ≡ drop at part)
-      (walked : Walked (readProgram processors lines p done s) s step value) where
+      (walked : ComesTo (readProgram processors lines p done s) s step value) where
     turn : readPrograms processors lines 0 processors [] part ≡ next (foundBy s step value) (readPrograms processors lines (suc p) (processors - (p + 1)))
     unfolding readPrograms
     turn =
@@ -80,7 +80,7 @@ module _ {processors lines p at : ℕ} {part : List ℕ} {done : List Instructio
     unfolding next
     programs-fail {q} e = turn ∙ ap (λ (t : Step). next (foundBy s t value) (readPrograms processors lines (suc p) (processors - (p + 1)))) e
 
-  pub programs-end : processors ≤ p → Walked (readPrograms processors lines 0 processors [] part) part (Next at) done
+  pub programs-end : processors ≤ p → ComesTo (readPrograms processors lines 0 processors [] part) part (Next at) done
   unfolding readPrograms
   programs-end h = record {
     is = inv .decides ∙ ap (λ (k : ℕ). readPrograms processors lines p k done (drop at part)) (let z : processors - p ≡ 0 = omega arith in z);
@@ -89,7 +89,7 @@ module _ {processors lines p at : ℕ} {part : List ℕ} {done : List Instructio
 
 -- the questions after the last program
 module _ (processors lines : ℕ) (part : List ℕ) {step : Step} {value : List Instruction}
-    (walked : Walked (readPrograms processors lines 0 processors [] part) part step value) where
+    (walked : ComesTo (readPrograms processors lines 0 processors [] part) part step value) where
   after : readInstructions processors lines part
       ≡ next (foundBy part step value) (λ is. _>>_ (ask 10 (question10 is)) (_>>_ (ask 11 (question11 (operationCount processors is))) (pure is)))
   unfolding readInstructions
@@ -100,23 +100,23 @@ module _ (processors lines : ℕ) (part : List ℕ) {step : Step} {value : List 
   instructions-fail {q} e = after ∙ ap (λ (t : Step). next (foundBy part t value) (λ is. _>>_ (ask 10 (question10 is)) (_>>_ (ask 11 (question11 (operationCount processors is))) (pure is)))) e
 
   module _ {k : ℕ} (e : step ≡ Next k) where
-    came : readInstructions processors lines part
+    programs-come : readInstructions processors lines part
         ≡ _>>_ (ask 10 (question10 value)) (_>>_ (ask 11 (question11 (operationCount processors value))) (pure value)) (drop k part)
     unfolding next
-    came = after ∙ ap (λ (t : Step). next (foundBy part t value) (λ is. _>>_ (ask 10 (question10 is)) (_>>_ (ask 11 (question11 (operationCount processors is))) (pure is)))) e
+    programs-come = after ∙ ap (λ (t : Step). next (foundBy part t value) (λ is. _>>_ (ask 10 (question10 is)) (_>>_ (ask 11 (question11 (operationCount processors is))) (pure is)))) e
 
     pub instructions-none : length value < 1 → readInstructions processors lines part ≡ no-to 10
     unfolding next ask question10
-    instructions-none h = came ∙ rw (lt-leb 1 (length value) h)
+    instructions-none h = programs-come ∙ rw (lt-leb 1 (length value) h)
 
     module _ (some : 1 ≤ length value) where
       pub instructions-many : 128 < operationCount processors value → readInstructions processors lines part ≡ no-to 11
       unfolding next ask question10 question11
-      instructions-many h = came ∙ rw (le-leb 1 (length value) some, lt-leb (operationCount processors value) 128 h)
+      instructions-many h = programs-come ∙ rw (le-leb 1 (length value) some, lt-leb (operationCount processors value) 128 h)
 
-      pub instructions-read : operationCount processors value ≤ 128 → Walked (readInstructions processors lines part) part (Next k) value
+      pub instructions-read : operationCount processors value ≤ 128 → ComesTo (readInstructions processors lines part) part (Next k) value
       unfolding next ask question10 question11
       instructions-read h = record {
-        is = came ∙ rw (le-leb 1 (length value) some, le-leb (operationCount processors value) 128 h);
+        is = programs-come ∙ rw (le-leb 1 (length value) some, le-leb (operationCount processors value) 128 h);
         within = λ j f. walked .within j (e ∙ f);
       }

@@ -10,7 +10,7 @@ ghost use Rattle.model.specs.Execution.{Instruction, operationCount};
 ghost use Rattle.model.specs.Questions.{entryLength, question7, question8, instructionOf, readInstruction, readProgram, readPrograms, readInstructions, many};
 ghost use Rattle.record_decoded.specs.Kinds.{meant};
 ghost use Rattle.record_decoded.specs.Decoded.{instructionsOf, Counted};
-ghost use Rattle.record_decoded.specs.Steps.{Answered, InstructionsWalked, InstructionMore};
+ghost use Rattle.record_decoded.specs.Steps.{Answered, InstructionsComeTo, InstructionMore};
 use record_decoded::kind::Kind;
 use record_decoded::kind::is_fence;
 use record_decoded::kind::kind_of;
@@ -167,7 +167,7 @@ fn program_entries(
 ) -> InstructionsRead
     requires { ⌜ (1 ≤ length (now part)) × (lines ≤ 8) × (processors ≤ 8) × (is .count + n ≤ 40) ⌝ }
     requires { ⌜ Counted processors is ⌝ }
-    ensures { λ r. ⌜ InstructionsWalked processors (many (readInstruction processors lines p) n (instructionsOf is) (drop 1 (now (part .entry)))) (now (part .entry)) (r .step) (r .instructions) ⌝ }
+    ensures { λ r. ⌜ InstructionsComeTo processors (many (readInstruction processors lines p) n (instructionsOf is) (drop 1 (now (part .entry)))) (now (part .entry)) (r .step) (r .instructions) ⌝ }
 {
     let mut instructions = is;
     let mut at = 1;
@@ -202,7 +202,7 @@ fn read_program(
 ) -> InstructionsRead
     requires { ⌜ (lines ≤ 8) × (processors ≤ 8) ⌝ }
     requires { ⌜ Counted processors is ⌝ }
-    ensures { λ r. ⌜ InstructionsWalked processors (readProgram processors lines p (instructionsOf is) (now (part .entry))) (now (part .entry)) (r .step) (r .instructions) ⌝ }
+    ensures { λ r. ⌜ InstructionsComeTo processors (readProgram processors lines p (instructionsOf is) (now (part .entry))) (now (part .entry)) (r .step) (r .instructions) ⌝ }
 {
     if part.len() < 1 {
         return InstructionsRead {
@@ -224,7 +224,7 @@ fn read_program(
 // The programs of all processors, one after the other.
 fn read_programs(part: &[u8], lines: usize, processors: usize) -> InstructionsRead
     requires { ⌜ (lines ≤ 8) × (processors ≤ 8) ⌝ }
-    ensures { λ r. ⌜ InstructionsWalked processors (readPrograms processors lines 0 processors [] (now (part .entry))) (now (part .entry)) (r .step) (r .instructions) ⌝ }
+    ensures { λ r. ⌜ InstructionsComeTo processors (readPrograms processors lines 0 processors [] (now (part .entry))) (now (part .entry)) (r .step) (r .instructions) ⌝ }
 {
     let mut instructions = no_instructions();
     let mut at = 0;
@@ -253,7 +253,7 @@ fn read_programs(part: &[u8], lines: usize, processors: usize) -> InstructionsRe
 // The programs, and the questions after the last.
 pub fn read_instructions(part: &[u8], lines: usize, processors: usize) -> InstructionsRead
     requires { ⌜ (lines ≤ 8) × (processors ≤ 8) ⌝ }
-    ensures { λ r. ⌜ InstructionsWalked processors (readInstructions processors lines (now (part .entry))) (now (part .entry)) (r .step) (r .instructions) ⌝ }
+    ensures { λ r. ⌜ InstructionsComeTo processors (readInstructions processors lines (now (part .entry))) (now (part .entry)) (r .step) (r .instructions) ⌝ }
 {
     let read = read_programs(part, lines, processors);
     let step = read.step;

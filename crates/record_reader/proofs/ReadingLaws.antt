@@ -12,11 +12,11 @@ use Rattle.model.specs.Questions.{Found, no-to, found, Reader, next, ask, quest
 use Rattle.model.specs.Calls.{says, refuses, answerOf, readAll}
 use Rattle.record_decoded.specs.declared.types.Step.{Step}
 use Rattle.record_decoded.specs.declared.types.Step.the-variants.{Refused, Next}
-use Rattle.record_decoded.specs.Steps.{foundBy, Walked}
+use Rattle.record_decoded.specs.Steps.{foundBy, ComesTo}
 use Rattle.record_reader.specs.Readings.{afterInstructions, afterLines}
 use Rattle.record_decoded.proofs.Items.{byte-short, byte-there}
 
-module _ {A B : Type 0} {walk : Found A} {part : List ℕ} {step : Step} {value : A} (walked : Walked walk part step value) (after : A → Reader B) where
+module _ {A B : Type 0} {walk : Found A} {part : List ℕ} {step : Step} {value : A} (walked : ComesTo walk part step value) (after : A → Reader B) where
   -- a section that is refused refuses the rest
   pub section-fails : {q : ℕ} → step ≡ Refused q → next walk after ≡ no-to q
   unfolding next
@@ -42,7 +42,7 @@ end-reached k part h = ap question15 (drop-of-length-le part h)
 
 -- the walk after the programs
 module _ (processors : ℕ) (lines : List model.Line) (is : List model.Instruction) (part : List ℕ) {step : Step} {pairs : List (ℕ × ℕ)}
-    (walked : Walked (readPairs is part) part step pairs) where
+    (walked : ComesTo (readPairs is part) part step pairs) where
   pub end-fails : {q : ℕ} → step ≡ Refused q → answerOf (afterInstructions processors lines is part) ≡ refuses q
   unfolding afterInstructions answerOf
   end-fails e = ap answerOf (section-fails walked _ e)
@@ -58,9 +58,9 @@ module _ (processors : ℕ) (lines : List model.Line) (is : List model.Instructi
 
 -- the walk after the lines
 module _ (processors : ℕ) (lines : List model.Line) (count : ℕ) (counts : length lines ≡ count) (part : List ℕ) {step : Step} {is : List model.Instruction}
-    (walked : Walked (readInstructions processors count part) part step is) where
-  there : Walked (readInstructions processors (length lines) part) part step is
-  there = subst (λ (n : ℕ). Walked (readInstructions processors n part) part step is) (sym counts) walked
+    (walked : ComesTo (readInstructions processors count part) part step is) where
+  there : ComesTo (readInstructions processors (length lines) part) part step is
+  there = subst (λ (n : ℕ). ComesTo (readInstructions processors n part) part step is) (sym counts) walked
 
   pub rest-fails : {q : ℕ} → step ≡ Refused q → answerOf (afterLines processors lines part) ≡ refuses q
   unfolding afterLines answerOf
@@ -90,9 +90,9 @@ module _ (bytes : List ℕ) where
       unfolding readAll readRecord next ask question2 afterLines afterInstructions
       record-lines = rw (byte-there bytes room, le-leb 1 (getD bytes 0 0) some, le-leb (getD bytes 0 0) 8 few)
 
-      module _ (s : List ℕ) (here : s ≡ drop 1 bytes) {step : Step} {lines : List model.Line} (walked : Walked (readLines s) s step lines) where
-        lines-there : Walked (readLines (drop 1 bytes)) s step lines
-        lines-there = subst (λ (l : List ℕ). Walked (readLines l) s step lines) here walked
+      module _ (s : List ℕ) (here : s ≡ drop 1 bytes) {step : Step} {lines : List model.Line} (walked : ComesTo (readLines s) s step lines) where
+        lines-there : ComesTo (readLines (drop 1 bytes)) s step lines
+        lines-there = subst (λ (l : List ℕ). ComesTo (readLines l) s step lines) here walked
 
         pub record-fails : {q : ℕ} → step ≡ Refused q → readAll bytes ≡ refuses q
         unfolding answerOf

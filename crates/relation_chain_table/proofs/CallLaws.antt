@@ -8,10 +8,10 @@ use borrow.Author.Tests.{le-leb}
 use Rattle.base.specs.Lists.{below}
 use Rattle.base.proofs.Lists.{length-count, getD-below}
 use Rattle.model.specs.Execution.{Execution, operations}
-use Rattle.model.specs.Questions.{found, next, ask, readRecord}
+use Rattle.model.specs.Questions.{found, readRecord}
 use Rattle.model.specs.Rules.{Link, linksOf, linked}
 use Rattle.model.specs.Chains.{chainMark, chainMarks}
-use Rattle.model.specs.Calls.{answerOf, tabling, tableReply, tableCall}
+use Rattle.model.specs.Calls.{andThen, asks, answerOf, readAll, tableMarks, tabling, tableReply, tableCall}
 use Rattle.model.proofs.Accepted.{accepted}
 use Rattle.relation_chain_table.specs.Paths.{BytesArePaths}
 use Rattle.relation_chain_table.proofs.LinkedLaws.{chain-marks-are-paths}
@@ -36,15 +36,16 @@ module _ (bytes table : List ℕ) (e : Execution) (rest : List ℕ) (read : read
   abbrev links : List Link
   links = linksOf e (linked e)
 
-  left : tableCall bytes table .table ≡ chainMarks (operations e) links ++ drop (length (chainMarks (operations e) links)) table
-  unfolding tableCall tabling tableReply answerOf next ask
-  left = rw (read, le-leb (operations e * operations e) (length table) room)
+  -- the table that the call leaves
+  pub table-left : tableCall bytes table .table ≡ chainMarks (operations e) links ++ drop (length (chainMarks (operations e) links)) table
+  unfolding tableCall tabling readAll tableMarks tableReply answerOf andThen asks
+  table-left = rw (read, le-leb (operations e * operations e) (length table) room)
 
   pub bytes-are-paths : BytesArePaths (operations e) links (tableCall bytes table .table)
   bytes-are-paths a b h l =
       let marks = chainMarks (operations e) links in
       let there : getD (tableCall bytes table .table) (a * operations e + b) 0 ≡ chainMark (operations e) links a b =
-      ap (λ (t : List ℕ). getD t (a * operations e + b) 0) left
+      ap (λ (t : List ℕ). getD t (a * operations e + b) 0) table-left
       ∙ List·getD-append marks (drop (length marks) table) 0 (a * operations e + b) (omega (arith, marks-length (operations e) links, in-square a b (operations e) h l))
       ∙ mark-at (operations e) links a b h l in
       let both = chain-marks-are-paths e (accepted bytes e rest read) a b h l in

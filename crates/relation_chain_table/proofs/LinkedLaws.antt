@@ -1,35 +1,28 @@
 -- The links of an execution: the table's test of two operations is whether one of them leads to the other; their chain marks are the paths.
-use Prim.Native.Nat.{ℕ, suc, _+_, _<_}
+use Prim.Native.Nat.{ℕ, _<_}
 use native.Mathlib.Omega.{arith}
-use mathlib.Core.Path.{_≡_, refl, sym, ap, ap₂, _∙_, subst}
+use mathlib.Core.Path.{_≡_, refl, sym, ap, ap₂, _∙_}
 use mathlib.Core.Bool.{Bool, true, false}
-use mathlib.Core.List.{List, [], _∷_, List·Memᴰ, List·Memᴰ·head, List·Memᴰ·tail, List·Memᴰ·not-nil, List·Memᴰ·eq-of-singleton, List·Memᴰ·append-cases, Memᴰ·of-map}
-use mathlib.Core.Logic.{⊎-elim}
-use lib.ListN.{length, getD}
-use Rattle.base.specs.Lists.{when, for, below}
+use mathlib.Core.List.{List, [], _∷_, List·Memᴰ, List·Memᴰ·head, List·Memᴰ·not-nil, List·Memᴰ·eq-of-singleton}
+use Rattle.base.specs.Lists.{when, for}
 use Rattle.base.proofs.Bools.{agree}
 use Rattle.base.proofs.Lists.{of-for, in-for}
 use Rattle.model.specs.Execution as model
-use Rattle.model.specs.Execution.{Instruction, Operation, F, roles, numberOf, operationCount, operations, operationsOf, allOperations}
+use Rattle.model.specs.Execution.{Operation, operations, allOperations}
 use Rattle.model.specs.Rules.{Link, linksOf, linked}
 use Rattle.model.specs.Chains.{leads}
-use Rattle.model.proofs.Accepted.{Laid, Accepted}
-use Rattle.model.proofs.Numbers.{role-number}
+use Rattle.model.specs.Accepted.{Consecutive, Accepted}
+use Rattle.model.proofs.Numbers.{number-below}
 use Rattle.record_decoded.specs.declared.types.Execution.{Execution}
 use Rattle.record_decoded.specs.Decoded.{executionOf}
 use Rattle.relation_links.specs.declared.operations.Operations.{Operations}
-use Rattle.relation_links.specs.Operations.{operationAt, tableOf}
+use Rattle.relation_links.specs.Operations.{operationAt}
 use Rattle.relation_links.specs.Compiled.{Compiled}
-use Rattle.relation_links.proofs.CompiledLaws.{operation-there}
+use Rattle.relation_links.proofs.CompiledLaws.{operation-there, operation-numbered}
 use Rattle.relation_links.specs.Linked.{linkedAt}
 use Rattle.relation_links.proofs.LinkedLaws.{linked-means}
 use Rattle.relation_chain_table.specs.Paths.{Within, MarksArePaths}
 use Rattle.relation_chain_table.proofs.PathLaws.{leads-link, link-leads, marks-are-paths}
-
--- the place of an element
-place-of : {A : Type 0} {a : A} {l : List A} (d : A) → List·Memᴰ a l → (i : ℕ) × (i < length l) × (getD l i d ≡ a)
-place-of d (List·Memᴰ·head e) = (0, omega arith, sym e)
-place-of d (List·Memᴰ·tail m) = let (i, h, e) = place-of d m in (suc i, omega arith, e)
 
 of-when : {A : Type 0} {a : A} (b : Bool) {l : List A} → List·Memᴰ a (when b l) → (b ≡ true) × List·Memᴰ a l
 unfolding when
@@ -39,19 +32,6 @@ of-when false m = absurd (List·Memᴰ·not-nil m)
 in-when : {A : Type 0} {a : A} {b : Bool} {l : List A} → b ≡ true → List·Memᴰ a l → List·Memᴰ a (when b l)
 unfolding when
 in-when {A} {a} {b} {l} h m = rw h m
-
--- the operations of instructions that are laid out are numbered below their count
-numbered : (p at n : ℕ) (is : List Instruction) (o : Operation) → Laid p at n is → List·Memᴰ o (for is (operationsOf p)) → o .number < at + operationCount p is
-unfolding for operationsOf operationCount
-numbered p at n [] o l m = absurd (List·Memᴰ·not-nil m)
-numbered p at n (i ∷ is) o l m =
-    ⊎-elim
-    (λ w.
-    let (r, u, e) = Memᴰ·of-map (λ r. record { number = numberOf i r; instruction = i; role = r }) (roles p (i .kind)) w in
-    let (k, h, g) = place-of F u in
-    omega (arith, l .0, role-number p i (i .kind) k h, ap (numberOf i) g, ap (λ (q : Operation). q .number) e))
-    (λ w. omega (arith, numbered p (at + length (roles p (i .kind))) (suc n) is o (l .2) w))
-    (List·Memᴰ·append-cases (operationsOf p i) m)
 
 module _ (e : model.Execution) where
   -- a link of a relation is between two operations that it links
@@ -73,25 +53,18 @@ module _ (e : model.Execution) where
       (in-for (λ q. when (r o q) ((o .number, q .number) ∷ [])) mq (in-when t (List·Memᴰ·head refl)))
 
   -- links are between operations
-  pub links-within : (r : Operation → Operation → Bool) → Laid (e .processors) 0 0 (e .instructions) → Within (operations e) (linksOf e r)
+  pub links-within : (r : Operation → Operation → Bool) → Consecutive (e .processors) 0 0 (e .instructions) → Within (operations e) (linksOf e r)
   unfolding operations allOperations
   links-within r l a b m =
       let (o, q, mo, mq, t, ea, eb) = link-of r a b m in
-      (omega (arith, numbered (e .processors) 0 0 (e .instructions) o l mo), omega (arith, numbered (e .processors) 0 0 (e .instructions) q l mq))
+      (omega (arith, number-below (e .processors) 0 0 (e .instructions) o l mo), omega (arith, number-below (e .processors) 0 0 (e .instructions) q l mq))
 
   -- mark (a, b) of an accepted execution's chain table is 1 exactly where a path of links leads from a to b
   pub chain-marks-are-paths : Accepted e → MarksArePaths (operations e) (linksOf e (linked e))
-  chain-marks-are-paths c = marks-are-paths (operations e) (linksOf e (linked e)) (links-within (linked e) (c .laid))
+  chain-marks-are-paths c = marks-are-paths (operations e) (linksOf e (linked e)) (links-within (linked e) (c .consecutive))
 
 module _ {x : Execution} {t : Operations} {marks : List (List ℕ)} (h : Compiled x t marks) where
-  -- the operation of a number
-  one-numbered : (o : Operation) → List·Memᴰ o (allOperations (executionOf x)) → operationAt (x .instructions) t (o .number) ≡ o
-  unfolding tableOf operationAt
-  one-numbered o m =
-      let (i, w, q) = Memᴰ·of-map (operationAt (x .instructions) t) (below (t .count)) (subst (List·Memᴰ o) (sym (h .tabled .holds)) m) in
-      ap (operationAt (x .instructions) t) (ap (λ (k : Operation). k .number) (sym q)) ∙ q
-
-  module _ (laid : Laid (executionOf x .processors) 0 0 (executionOf x .instructions)) (a b : ℕ) (la : a < t .count) (lb : b < t .count) where
+  module _ (consecutive : Consecutive (executionOf x .processors) 0 0 (executionOf x .instructions)) (a b : ℕ) (la : a < t .count) (lb : b < t .count) where
     abbrev e : model.Execution
     e = executionOf x
 
@@ -111,12 +84,12 @@ module _ {x : Execution} {t : Operations} {marks : List (List ℕ)} (h : Compile
     pub leads-here : linkedAt (x .instructions) t marks a b ≡ leads (operations e) (linksOf e (linked e)) a b
     unfolding operationAt
     leads-here =
-        linked-means h laid a b la lb
+        linked-means h consecutive a b la lb
         ∙ agree (linked e first second) (leads (operations e) (linksOf e (linked e)) a b)
         (λ s. link-leads (operations e) (linksOf e (linked e)) (link-in e (linked e) ma mb s))
         (λ s.
         let (o, q, mo, mq, w, ea, eb) = link-of e (linked e) a b (leads-link (operations e) (linksOf e (linked e)) a b s) in
         ap₂ (linked e)
-        (ap (operationAt (x .instructions) t) (sym ea) ∙ one-numbered o mo)
-        (ap (operationAt (x .instructions) t) (sym eb) ∙ one-numbered q mq)
+        (ap (operationAt (x .instructions) t) (sym ea) ∙ operation-numbered h o mo)
+        (ap (operationAt (x .instructions) t) (sym eb) ∙ operation-numbered h q mq)
         ∙ w)

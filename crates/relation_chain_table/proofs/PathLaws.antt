@@ -14,7 +14,7 @@ use Rattle.base.proofs.Bools.{split, clash, agree, and-parts, and-both, or-righ
 use Rattle.base.proofs.Lists.{any-witness, any-member, in-keep, of-keep, keep-less, keep-length, in-below, of-below, length-count, member-in, in-member}
 use Rattle.model.specs.Rules.{Link}
 use Rattle.model.specs.Chains.{leads, reachedBy, chainMark}
-use Rattle.relation_chain_table.specs.Squares.{markOf, cell, Holds, via, closedBy}
+use Rattle.relation_chain_table.specs.Squares.{markOf, cell, MarksAre, via, closedBy}
 use Rattle.relation_chain_table.specs.Paths.{Path, one, more, Within, MarksArePaths, CellsArePaths}
 
 or-parts : (a b : Bool) → (a || b) ≡ true → (a ≡ true) ⊎ (b ≡ true)
@@ -204,7 +204,7 @@ module _ (n : ℕ) (links : List Link) where
   closed-is-path w a b = (closed-path n a b, path-closed w)
 
   -- cell (a, b) of a closed square is 1 exactly where a path leads from a to b
-  pub cells-are-paths : Within n links → (m : List (List ℕ)) → Holds n m (closedBy n (leads n links)) → CellsArePaths n links m
+  pub cells-are-paths : Within n links → (m : List (List ℕ)) → MarksAre n m (closedBy n (leads n links)) → CellsArePaths n links m
   cells-are-paths w m holds a b h l = (
     λ e. closed-path n a b (sym (holds a b h l) ∙ eq-eqb (cell m a b) 1 e),
     λ p. eqb-true (cell m a b) 1 (holds a b h l ∙ path-closed w p),

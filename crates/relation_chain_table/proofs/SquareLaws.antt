@@ -7,7 +7,7 @@ use mathlib.Core.Path.{_≡_, refl, sym, ap, _∙_}
 use mathlib.Core.Bool.{Bool, true, false, _||_, or-false}
 use mathlib.Core.List.{List}
 use lib.Dec.{eqb}
-use Rattle.relation_chain_table.specs.Squares.{markOf, marked, Holds, via, closedBy}
+use Rattle.relation_chain_table.specs.Squares.{markOf, marked, MarksAre, via, closedBy}
 
 -- a mark is 1 where the test holds
 pub mark-test : (b : Bool) → eqb (markOf b) 1 ≡ b
@@ -30,14 +30,14 @@ module _ (k : ℕ) (r : ℕ → ℕ → Bool) (i j : ℕ) where
 -- The invariant: the square is closed by way of the numbers below k.
 pub record Closing (n : ℕ) (links : List (List ℕ)) (k : ℕ) (m : List (List ℕ)) : Type 0 where
   pub within : k ≤ n
-  pub made : Holds n m (closedBy k (marked links))
+  pub made : MarksAre n m (closedBy k (marked links))
 
 pub closing-none : {n : ℕ} {links : List (List ℕ)} → Closing n links 0 links
 unfolding closedBy
 closing-none {n} {links} = record { within = omega arith; made = λ a b h l. refl }
 
 module _ {n : ℕ} {links : List (List ℕ)} {k : ℕ} {m : List (List ℕ)} (inv : Closing n links k m) where
-  pub closing-more : {next : List (List ℕ)} → k < n → Holds n next (via k (marked m)) → Closing n links (k + 1) next
+  pub closing-more : {next : List (List ℕ)} → k < n → MarksAre n next (via k (marked m)) → Closing n links (k + 1) next
   unfolding closedBy via
   closing-more {next} l h = record {
     within = omega arith;
@@ -45,5 +45,5 @@ module _ {n : ℕ} {links : List (List ℕ)} {k : ℕ} {m : List (List ℕ)} (in
   }
 
   -- the end of the loop
-  pub closing-all : n ≤ k → Holds n m (closedBy n (marked links))
+  pub closing-all : n ≤ k → MarksAre n m (closedBy n (marked links))
   closing-all h a b p q = inv .made a b p q ∙ ap (λ (j : ℕ). closedBy j (marked links) a b) (le-antisymm (inv .within) h)

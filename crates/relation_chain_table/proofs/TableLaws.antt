@@ -12,60 +12,37 @@ use Rattle.base.specs.Lists.{for, below}
 use Rattle.base.proofs.Lists.{map-same, of-below}
 use Rattle.model.specs.Execution as model
 use Rattle.model.specs.Execution.{operationCount, operations, operationsOf}
-use Rattle.model.specs.Questions.{Found, no-to, found, next, ask, readRecord}
 use Rattle.model.specs.Rules.{Link, linksOf, linked}
 use Rattle.model.specs.Chains.{leads, chainMark, chainMarks}
-use Rattle.model.specs.Calls.{says, refuses, answerOf, readAll, tabling, tableReply, tableCall}
-use Rattle.model.proofs.Accepted.{Accepted, accepted}
+use Rattle.model.specs.Calls.{says, refuses, readAll, tableMarks, tabling, tableReply, tableCall}
+use Rattle.model.proofs.Asking.{after-says, after-refuses, asked-yes, asked-no}
+use Rattle.model.specs.Accepted.{Accepted}
 use Rattle.record_decoded.specs.declared.types.Execution.{Execution}
 use Rattle.record_decoded.specs.Decoded.{instructionsOf, executionOf}
+use Rattle.record_decoded.proofs.Counts.{count-is}
 use Rattle.relation_links.specs.declared.operations.Operations.{Operations}
 use Rattle.relation_links.specs.Operations.{Tabled}
 use Rattle.relation_links.specs.Compiled.{Compiled}
 use Rattle.relation_links.proofs.CompiledLaws.{few-operations, few-instructions, owner-there}
 use Rattle.relation_chain_table.specs.declared.TableAnswer.the-variants.{Done, Refused}
-use Rattle.relation_chain_table.specs.Replies.{replyOf, tableFor}
+use Rattle.relation_chain_table.specs.Replies.{replyOf}
 use Rattle.relation_links.specs.Linked.{linkedAt}
-use Rattle.relation_chain_table.specs.Squares.{markOf, marked, Holds, via, closedBy, rowMarks, squareMarks}
+use Rattle.relation_chain_table.specs.Squares.{markOf, marked, MarksAre, via, closedBy, rowMarks, squareMarks}
 use Rattle.relation_chain_table.specs.Paths.{Within, CellsArePaths}
 use Rattle.relation_chain_table.proofs.RowLaws.{square-length}
 use Rattle.relation_chain_table.proofs.PathLaws.{mark-is-closed, cells-are-paths}
 use Rattle.relation_chain_table.proofs.LinkedLaws.{links-within, leads-here}
 
--- The reader's answer
-
-read-refused : (f : Found model.Execution) (q : ℕ) → answerOf f ≡ refuses q → f ≡ no-to q
-unfolding answerOf
-read-refused (no-to p) q h = cc
-read-refused (found e rest) q h = cc
-
-read-says : (f : Found model.Execution) (e : model.Execution) → answerOf f ≡ says e → (rest : List ℕ) × (f ≡ found e rest)
-unfolding answerOf
-read-says (no-to p) e h = ([], cc)
-read-says (found d rest) e h = (rest, cc)
-
-asked : (rest : List ℕ) (b : Bool) (marks : List ℕ) → cond b (says marks) (refuses 22) ≡ answerOf (next (ask 22 b rest) (λ u. found marks))
-unfolding answerOf next ask
-asked rest true marks = refl
-asked rest false marks = refl
-
 module _ (bytes table : List ℕ) where
   -- a record that is refused
   pub call-refused : {q : ℕ} → readAll bytes ≡ refuses q → replyOf (Refused q) table ≡ tableCall bytes table
-  unfolding readAll tableCall tabling tableReply answerOf next
-  call-refused {q} h = rw (read-refused (readRecord bytes) q h)
+  unfolding tableCall tabling tableReply
+  call-refused {q} h = ap (tableReply table) (after-refuses (λ d. tableMarks d table) h)
 
-  module _ {e : model.Execution} (h : readAll bytes ≡ says e) where
-    -- a record that is accepted
-    pub call-accepted : Accepted e
-    unfolding readAll
-    call-accepted = let (rest, f) = read-says (readRecord bytes) e h in accepted bytes e rest f
-
-    pub call-asks : tableReply table (tableFor e table) ≡ tableCall bytes table
-    unfolding readAll tableCall tabling tableFor next
-    call-asks =
-        let (rest, f) = read-says (readRecord bytes) e h in
-        rw f (ap (tableReply table) (asked rest (leb (operations e * operations e) (length table)) (chainMarks (operations e) (linksOf e (linked e)))))
+  -- a record that is accepted
+  pub call-accepted : {e : model.Execution} → readAll bytes ≡ says e → tableReply table (tableMarks e table) ≡ tableCall bytes table
+  unfolding tableCall tabling
+  call-accepted h = ap (tableReply table) (after-says (λ d. tableMarks d table) h)
 
 -- relations that agree below n have closures that agree
 closed-same : (n : ℕ) (r s : ℕ → ℕ → Bool) → ((a b : ℕ) → a < n → b < n → r a b ≡ s a b)
@@ -82,7 +59,7 @@ for-same f g [] h = refl
 for-same f g (a ∷ l) h = cc (h a (List·Memᴰ·head refl), for-same f g l (λ b m. h b (List·Memᴰ·tail m)))
 
 -- the marks written from a closed square are the chain marks
-marks-written : (n : ℕ) (links : List Link) (m : List (List ℕ)) → Within n links → Holds n m (closedBy n (leads n links)) → squareMarks m n n ≡ chainMarks n links
+marks-written : (n : ℕ) (links : List Link) (m : List (List ℕ)) → Within n links → MarksAre n m (closedBy n (leads n links)) → squareMarks m n n ≡ chainMarks n links
 unfolding squareMarks rowMarks chainMarks
 marks-written n links m w holds =
     for-same (rowMarks m n) (λ a. map (chainMark n links a) (below n)) (below n)
@@ -96,8 +73,7 @@ module _ (x : Execution) (a : Accepted (executionOf x)) where
   module _ {t : Operations}
       (tabled : Tabled (x .instructions) t (for (instructionsOf (x .instructions)) (operationsOf (x .processors))) (operationCount (x .processors) (instructionsOf (x .instructions)))) where
     counts : t .count ≡ operations e
-    unfolding executionOf operations
-    counts = tabled .counts
+    counts = count-is x (t .count) (tabled .counts)
 
     pub few : t .count ≤ 128
     few = omega (arith, tabled .counts, few-operations x a)
@@ -105,35 +81,38 @@ module _ (x : Execution) (a : Accepted (executionOf x)) where
     pub square-few : t .count * t .count ≤ 16384
     square-few = omega (arith, mul-le-mul-right (t .count) few, mul-le-mul-right 128 few)
 
-    pub refuses-22 : (table : List ℕ) → length table < t .count * t .count → replyOf (Refused 22) table ≡ tableReply table (tableFor e table)
-    unfolding tableFor tableReply
-    refuses-22 table h = rw (← counts, lt-leb (t .count * t .count) (length table) h)
+    -- question 22, as the arrays count
+    room-is : (table : List ℕ) → leb (operations e * operations e) (length table) ≡ leb (t .count * t .count) (length table)
+    room-is table = ap (λ (n : ℕ). leb (n * n) (length table)) (sym counts)
+
+    pub refuses-22 : (table : List ℕ) → length table < t .count * t .count → replyOf (Refused 22) table ≡ tableReply table (tableMarks e table)
+    unfolding tableMarks tableReply
+    refuses-22 table h = ap (tableReply table) (asked-no 22 _ (room-is table ∙ lt-leb (t .count * t .count) (length table) h))
 
     module _ {marks : List (List ℕ)} (c : Compiled x t marks) where
       pub owners-few : (o : ℕ) → o < t .count → getD (t .owners) o 0 < 40
       owners-few o l = omega (arith, owner-there c o l, few-instructions x a)
 
       -- the closed square
-      module _ (links chains : List (List ℕ)) (filled : Holds (t .count) links (linkedAt (x .instructions) t marks)) (closed : Holds (t .count) chains (closedBy (t .count) (marked links))) where
-        holds : Holds (operations e) chains (closedBy (operations e) (leads (operations e) (linksOf e (linked e))))
-        holds = subst (λ (n : ℕ). Holds n chains (closedBy n (leads (operations e) (linksOf e (linked e))))) counts
+      module _ (links chains : List (List ℕ)) (filled : MarksAre (t .count) links (linkedAt (x .instructions) t marks)) (closed : MarksAre (t .count) chains (closedBy (t .count) (marked links))) where
+        holds : MarksAre (operations e) chains (closedBy (operations e) (leads (operations e) (linksOf e (linked e))))
+        holds = subst (λ (n : ℕ). MarksAre n chains (closedBy n (leads (operations e) (linksOf e (linked e))))) counts
             (λ i j p q. closed i j p q
             ∙ closed-same (t .count) (marked links) (leads (operations e) (linksOf e (linked e)))
-            (λ i j p q. filled i j p q ∙ leads-here c (a .laid) i j p q) (t .count) (omega arith) i j p q)
+            (λ i j p q. filled i j p q ∙ leads-here c (a .consecutive) i j p q) (t .count) (omega arith) i j p q)
 
         -- a cell is 1 exactly where a path of links leads
         pub chains-are-paths : CellsArePaths (operations e) (linksOf e (linked e)) chains
-        chains-are-paths = cells-are-paths (operations e) (linksOf e (linked e)) (links-within e (linked e) (a .laid)) chains holds
+        chains-are-paths = cells-are-paths (operations e) (linksOf e (linked e)) (links-within e (linked e) (a .consecutive)) chains holds
 
         written : squareMarks chains (t .count) (t .count) ≡ chainMarks (operations e) (linksOf e (linked e))
         written =
             ap (λ (n : ℕ). squareMarks chains n n) counts
-            ∙ marks-written (operations e) (linksOf e (linked e)) chains (links-within e (linked e) (a .laid)) holds
+            ∙ marks-written (operations e) (linksOf e (linked e)) chains (links-within e (linked e) (a .consecutive)) holds
 
         pub says-marks : (table now : List ℕ) → t .count * t .count ≤ length table → now ≡ squareMarks chains (t .count) (t .count) ++ drop (t .count * t .count) table
-            → replyOf Done now ≡ tableReply table (tableFor e table)
-        unfolding tableFor tableReply
+            → replyOf Done now ≡ tableReply table (tableMarks e table)
+        unfolding tableMarks tableReply
         says-marks table now h made =
             ap (replyOf Done) (made ∙ ap₂ (λ (l : List ℕ) (k : ℕ). l ++ drop k table) written (sym (square-length chains (t .count) (t .count)) ∙ ap length written))
-            ∙ sym (ap (λ (b : Bool). tableReply table (cond b (says (chainMarks (operations e) (linksOf e (linked e)))) (refuses 22)))
-            (ap (λ (n : ℕ). leb (n * n) (length table)) (sym counts) ∙ le-leb (t .count * t .count) (length table) h))
+            ∙ ap (tableReply table) (asked-yes 22 _ (room-is table ∙ le-leb (t .count * t .count) (length table) h))

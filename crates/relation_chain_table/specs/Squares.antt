@@ -20,8 +20,8 @@ abbrev pub marked : List (List ℕ) → ℕ → ℕ → Bool
 marked m a b = eqb (cell m a b) 1
 
 -- the marks of the first n rows and columns are a relation
-abbrev pub Holds : ℕ → List (List ℕ) → (ℕ → ℕ → Bool) → Type 0
-Holds n m r = (a b : ℕ) → a < n → b < n → marked m a b ≡ r a b
+abbrev pub MarksAre : ℕ → List (List ℕ) → (ℕ → ℕ → Bool) → Type 0
+MarksAre n m r = (a b : ℕ) → a < n → b < n → marked m a b ≡ r a b
 
 -- a leads to b, or to k, which leads to b
 unfoldable pub via : ℕ → (ℕ → ℕ → Bool) → ℕ → ℕ → Bool

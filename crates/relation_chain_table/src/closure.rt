@@ -4,7 +4,7 @@ ghost use mathlib.Core.Bool.{_||_};
 ghost use Prim.Native.Nat.{ℕ, _<_, _≤_};
 ghost use lib.ListN.{getD};
 ghost use lib.Dec.{eqb};
-ghost use Rattle.relation_chain_table.specs.Squares.{Holds, marked, via, closedBy};
+ghost use Rattle.relation_chain_table.specs.Squares.{MarksAre, marked, via, closedBy};
 use crate::square::is_marked;
 use crate::square::mark_of;
 use record_decoded::types::OperationNo;
@@ -43,7 +43,7 @@ fn row_via(m: &[[u8; 128]; 128], n: usize, from: OperationNo, way: OperationNo) 
 // Every row by way of one operation.
 fn rows_via(m: &[[u8; 128]; 128], n: usize, way: OperationNo) -> [[u8; 128]; 128]
     requires { ⌜ (n ≤ 128) × (way .0 < n) ⌝ }
-    ensures { λ r. ⌜ Holds n r (via (way .0) (marked (now (m .entry)))) ⌝ }
+    ensures { λ r. ⌜ MarksAre n r (via (way .0) (marked (now (m .entry)))) ⌝ }
 {
     let k = way.0;
     let mut rows = [[0u8; 128]; 128];
@@ -56,7 +56,7 @@ fn rows_via(m: &[[u8; 128]; 128], n: usize, way: OperationNo) -> [[u8; 128]; 128
 // The square closed to chains.
 pub fn closed(links: [[u8; 128]; 128], n: usize) -> [[u8; 128]; 128]
     requires { ⌜ n ≤ 128 ⌝ }
-    ensures { λ r. ⌜ Holds n r (closedBy n (marked links)) ⌝ }
+    ensures { λ r. ⌜ MarksAre n r (closedBy n (marked links)) ⌝ }
 {
     let mut square = links;
     for k in 0..n {

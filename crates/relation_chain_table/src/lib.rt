@@ -1,9 +1,9 @@
 // The chain table: a mark for every two operations between which one or more links lead.
 ghost use mathlib.Core.Path.{_≡_};
-ghost use Rattle.model.specs.Calls.{tableReply, tableCall};
-ghost use Rattle.model.proofs.Accepted.{Accepted};
+ghost use Rattle.model.specs.Calls.{tableMarks, tableReply, tableCall};
+ghost use Rattle.model.specs.Accepted.{Accepted};
 ghost use Rattle.record_decoded.specs.Decoded.{executionOf};
-ghost use Rattle.relation_chain_table.specs.Replies.{replyOf, tableFor};
+ghost use Rattle.relation_chain_table.specs.Replies.{replyOf};
 use crate::closure::closed;
 use crate::rows::write_rows;
 use crate::square::links_square;
@@ -25,7 +25,7 @@ pub enum TableAnswer {
 // Question 22, then the table: the links, closed to chains, then written out.
 fn write_chains(x: Execution, table: &mut [u8]) -> TableAnswer
     requires { ⌜ Accepted (executionOf x) ⌝ }
-    ensures { λ r. ⌜ replyOf r (now (table .exit)) ≡ tableReply (now (table .entry)) (tableFor (executionOf x) (now (table .entry))) ⌝ }
+    ensures { λ r. ⌜ replyOf r (now (table .exit)) ≡ tableReply (now (table .entry)) (tableMarks (executionOf x) (now (table .entry))) ⌝ }
 {
     let is = x.instructions;
     let t = operations_of(is, x.processors);

@@ -4,7 +4,7 @@ ghost use Prim.Native.Nat.{ℕ, _<_, _≤_};
 ghost use lib.ListN.{getD};
 ghost use lib.Dec.{eqb};
 ghost use Rattle.relation_links.specs.Linked.{linkedAt};
-ghost use Rattle.relation_chain_table.specs.Squares.{markOf, marked, Holds};
+ghost use Rattle.relation_chain_table.specs.Squares.{markOf, marked, MarksAre};
 use record_decoded::types::Instructions;
 use record_decoded::types::OperationNo;
 use record_decoded::types::wide;
@@ -58,7 +58,7 @@ fn links_row(
 // The links between all operations.
 pub fn links_square(is: Instructions, t: Operations, marks: &[[u16; 40]; 40]) -> [[u8; 128]; 128]
     requires { ⌜ (t .count ≤ 128) × ((o : ℕ) → o < t .count → getD (t .owners) o 0 < 40) ⌝ }
-    ensures { λ r. ⌜ Holds (t .count) r (linkedAt is t (now (marks .entry))) ⌝ }
+    ensures { λ r. ⌜ MarksAre (t .count) r (linkedAt is t (now (marks .entry))) ⌝ }
 {
     let n = t.count;
     let mut square = [[0u8; 128]; 128];

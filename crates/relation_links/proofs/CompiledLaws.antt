@@ -1,14 +1,14 @@
 -- Each operation of the table is one of the execution, of an instruction of the record; what an accepted execution gives the functions that make tables.
 use Prim.Native.Nat.{ℕ, _≤_, _<_}
 use native.Mathlib.Omega.{arith}
-use mathlib.Core.Path.{_≡_, ap, subst}
+use mathlib.Core.Path.{_≡_, sym, ap, _∙_, subst}
 use mathlib.Core.List.{List, List·Memᴰ, Memᴰ·map, Memᴰ·of-map}
 use lib.ListN.{getD, length-map}
 use Rattle.base.specs.Lists.{for, below}
 use Rattle.base.proofs.Lists.{length-count, in-below, of-below}
 use Rattle.model.specs.Execution as model
 use Rattle.model.specs.Execution.{operationCount, operations, operationsOf, allOperations}
-use Rattle.model.proofs.Accepted.{Laid, Accepted}
+use Rattle.model.specs.Accepted.{Consecutive, Accepted}
 use Rattle.record_decoded.specs.declared.types.Execution.{Execution}
 use Rattle.record_decoded.specs.Decoded.{pairAt, pairsOf, instructionAt, instructionsOf, executionOf}
 use Rattle.record_decoded.proofs.Arrays.{lines-length, instructions-length}
@@ -32,6 +32,13 @@ module _ {x : Execution} {t : Operations} {marks : List (List ℕ)} (h : Compile
       (operation-of (executionOf x) (operationAt (x .instructions) t o) (operation-there o l)) in
       subst (λ (i : ℕ). i < x .instructions .count) (ap (λ (i : model.Instruction). i .number) q) (of-below (x .instructions .count) m)
 
+  -- the operation of a number
+  pub operation-numbered : (o : model.Operation) → List·Memᴰ o (allOperations (executionOf x)) → operationAt (x .instructions) t (o .number) ≡ o
+  unfolding tableOf operationAt
+  operation-numbered o m =
+      let (i, w, q) = Memᴰ·of-map (operationAt (x .instructions) t) (below (t .count)) (subst (List·Memᴰ o) (sym (h .tabled .holds)) m) in
+      ap (operationAt (x .instructions) t) (ap (λ (k : model.Operation). k .number) (sym q)) ∙ q
+
 -- what the arrays of an accepted execution hold
 module _ (x : Execution) (a : Accepted (executionOf x)) where
   pub few-processors : x .processors ≤ 8
@@ -54,9 +61,9 @@ module _ (x : Execution) (a : Accepted (executionOf x)) where
   unfolding executionOf operations
   few-operations = a .operations-few
 
-  pub laid-out : Laid (x .processors) 0 0 (instructionsOf (x .instructions))
+  pub consecutive-here : Consecutive (x .processors) 0 0 (instructionsOf (x .instructions))
   unfolding executionOf
-  laid-out = a .laid
+  consecutive-here = a .consecutive
 
 -- what the functions that make tables promise, together
 pub compiled : (x : Execution) {t : Operations} {marks : List (List ℕ)}

@@ -15,7 +15,8 @@ use Rattle.base.proofs.Lists.{of-for}
 use Rattle.base.proofs.Bits.{bit-packed}
 use Rattle.model.specs.Execution.{Kind, ld, ld-acq, st, st-rel, mf, isLoad, isStore, isAcquire, isFence, isRelease, Instruction, Execution, Role, LV, RV, roles, Operation, operationsOf, allOperations}
 use Rattle.model.specs.Rules.{hasRoleR, hasRoleLV, hasRoleF, hasRoleRV, sameVisibility, earlier, link1, link2, link3, link4, link5, link6, link7, paired, link8, link13, linked}
-use Rattle.model.proofs.Accepted.{Laid}
+use Rattle.model.specs.Accepted.{Consecutive}
+use Rattle.model.proofs.Numbers.{one-numbered}
 use Rattle.model.proofs.ProgramOrder.{marks-rule2, marks-rule3, marks-rule4}
 use Rattle.relation_marks.specs.Marks.{hasMark, earlierOf, givenPair, marksOf, marksBetween}
 use Rattle.relation_links.specs.Links.{linkOf, ruleMark, rolesLink, linkBy}
@@ -29,22 +30,6 @@ operation-role e a m =
     let (r, mr, h) = Memᴰ·of-map _ (roles (e .processors) (i .kind)) ma in
     subst (λ (o : Operation). List·Memᴰ (o .role) (roles (e .processors) (o .instruction .kind))) h mr
 
--- instructions that are laid out differ in their numbers
-number-from : (p at n : ℕ) (is : List Instruction) (i : Instruction) → Laid p at n is → List·Memᴰ i is → n ≤ i .number
-number-from p at n [] i l m = absurd (List·Memᴰ·not-nil m)
-number-from p at n (j ∷ is) i l (List·Memᴰ·head h) = omega (arith, l .1, ap (λ (k : Instruction). k .number) h)
-number-from p at n (j ∷ is) i l (List·Memᴰ·tail m) = omega (arith, number-from p (at + length (roles p (j .kind))) (suc n) is i (l .2) m)
-
-one-numbered : (p at n : ℕ) (is : List Instruction) (i j : Instruction) → Laid p at n is → List·Memᴰ i is → List·Memᴰ j is → i .number ≡ j .number → i ≡ j
-one-numbered p at n [] i j l mi mj h = absurd (List·Memᴰ·not-nil mi)
-one-numbered p at n (k ∷ is) i j l (List·Memᴰ·head hi) (List·Memᴰ·head hj) h = hi ∙ sym hj
-one-numbered p at n (k ∷ is) i j l (List·Memᴰ·head hi) (List·Memᴰ·tail mj) h =
-    absurd (omega (arith, l .1, ap (λ (x : Instruction). x .number) hi, number-from p (at + length (roles p (k .kind))) (suc n) is j (l .2) mj))
-one-numbered p at n (k ∷ is) i j l (List·Memᴰ·tail mi) (List·Memᴰ·head hj) h =
-    absurd (omega (arith, l .1, ap (λ (x : Instruction). x .number) hj, number-from p (at + length (roles p (k .kind))) (suc n) is i (l .2) mi))
-one-numbered p at n (k ∷ is) i j l (List·Memᴰ·tail mi) (List·Memᴰ·tail mj) h =
-    one-numbered p (at + length (roles p (k .kind))) (suc n) is i j (l .2) mi mj h
-
 -- an operation is of an instruction of the execution
 pub operation-of : (e : Execution) (a : Operation) → List·Memᴰ a (allOperations e) → List·Memᴰ (a .instruction) (e .instructions)
 unfolding allOperations operationsOf
@@ -54,7 +39,7 @@ operation-of e a m =
     subst (λ (o : Operation). List·Memᴰ (o .instruction) (e .instructions)) h mi
 
 -- operations of one instruction number are of one processor
-pub operation-processor : (e : Execution) → Laid (e .processors) 0 0 (e .instructions) → (a b : Operation) → List·Memᴰ a (allOperations e) → List·Memᴰ b (allOperations e)
+pub operation-processor : (e : Execution) → Consecutive (e .processors) 0 0 (e .instructions) → (a b : Operation) → List·Memᴰ a (allOperations e) → List·Memᴰ b (allOperations e)
     → a .instruction .number ≡ b .instruction .number → a .instruction .processor ≡ b .instruction .processor
 operation-processor e l a b ma mb h =
     ap (λ (i : Instruction). i .processor)

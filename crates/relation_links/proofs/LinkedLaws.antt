@@ -10,7 +10,7 @@ use Rattle.base.specs.Below.{anyBelow}
 use Rattle.base.proofs.Tests.{any-passes, any-below-same}
 use Rattle.model.specs.Execution.{Role, RV}
 use Rattle.model.specs.Rules.{linked}
-use Rattle.model.proofs.Accepted.{Laid, Accepted}
+use Rattle.model.specs.Accepted.{Consecutive, Accepted}
 use Rattle.record_decoded.specs.Kinds.{roleNumbered}
 use Rattle.record_decoded.specs.declared.types.Execution.{Execution}
 use Rattle.record_decoded.specs.Decoded.{instructionAt, executionOf}
@@ -115,16 +115,16 @@ module _ {x : Execution} {t : Operations} {marks : List (List ℕ)} (h : Compile
   owner-few o l = omega (arith, owner-there h o l, few-instructions x accepted)
 
 -- the tables' test of two operations is whether some rule links them
-pub linked-means : {x : Execution} {t : Operations} {marks : List (List ℕ)} → Compiled x t marks → Laid (executionOf x .processors) 0 0 (executionOf x .instructions)
+pub linked-means : {x : Execution} {t : Operations} {marks : List (List ℕ)} → Compiled x t marks → Consecutive (executionOf x .processors) 0 0 (executionOf x .instructions)
     → (a o : ℕ) → a < t .count → o < t .count
     → linkedAt (x .instructions) t marks a o ≡ linked (executionOf x) (operationAt (x .instructions) t a) (operationAt (x .instructions) t o)
 unfolding linkedAt linkedBy operationAt instructionAt
-linked-means {x} {t} {marks} h laid a o la lo =
+linked-means {x} {t} {marks} h consecutive a o la lo =
     any-below-same _ _ 14 (λ rule l.
     ap (λ (k : ℕ). linkBy rule k (getD (x .instructions .processors) (getD (t .owners) a 0) 0) (roleNumbered (getD (t .roles) a 0)) (roleNumbered (getD (t .roles) o 0)))
     (h .marked (getD (t .owners) a 0) (getD (t .owners) o 0) (owner-there h a la) (owner-there h o lo))
     ∙ link-means (executionOf x) rule (executionOf x .processors) (operationAt (x .instructions) t a) (operationAt (x .instructions) t o)
     (operation-role (executionOf x) (operationAt (x .instructions) t a) (operation-there h a la))
     (operation-role (executionOf x) (operationAt (x .instructions) t o) (operation-there h o lo))
-    (operation-processor (executionOf x) laid (operationAt (x .instructions) t a) (operationAt (x .instructions) t o) (operation-there h a la) (operation-there h o lo)))
+    (operation-processor (executionOf x) consecutive (operationAt (x .instructions) t a) (operationAt (x .instructions) t o) (operation-there h a la) (operation-there h o lo)))
     ∙ sym (linked-by (executionOf x) (operationAt (x .instructions) t a) (operationAt (x .instructions) t o))

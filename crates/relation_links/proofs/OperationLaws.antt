@@ -11,8 +11,8 @@ use Rattle.base.specs.Lists.{below, count, for}
 use Rattle.base.proofs.Lists.{count-split, length-count, getD-count, map-same, of-count, for-append, for-one}
 use Rattle.model.specs.Execution as model
 use Rattle.model.specs.Execution.{Kind, Role, F, kindOf, roles, numberOf, operationsOf, operationCount}
-use Rattle.model.proofs.Accepted.{Laid}
-use Rattle.model.proofs.Numbers.{role-number, laid-at, count-more, count-first}
+use Rattle.model.specs.Accepted.{Consecutive}
+use Rattle.model.proofs.Numbers.{role-number, consecutive-at, count-more, count-first}
 use Rattle.record_decoded.specs.Kinds.{roleNumbered}
 use Rattle.record_decoded.specs.Decoded.{instructionAt, instructionsOf}
 use Rattle.record_decoded.proofs.Arrays.{instructions-length, instruction-there}
@@ -115,7 +115,7 @@ module _ (is : Instructions) (t r : Operations) (i processors : ℕ) (kind : Kin
 -- the table of the first i instructions, one longer
 module _ (is : Instructions) (t r : Operations) (i processors : ℕ) (there : i < is .count)
     (so-far : Tabled is t (for (take i (instructionsOf is)) (operationsOf processors)) (operationCount processors (take i (instructionsOf is))))
-    (laid : Laid processors 0 0 (instructionsOf is)) where
+    (consecutive : Consecutive processors 0 0 (instructionsOf is)) where
   abbrev instruction : model.Instruction
   instruction = instructionAt is i
 
@@ -131,7 +131,7 @@ module _ (is : Instructions) (t r : Operations) (i processors : ℕ) (there : i 
       so-far .counts
       ∙ sym (
       ap (λ (j : model.Instruction). j .first) (sym (instruction-there is i instruction there))
-      ∙ laid-at processors 0 0 (instructionsOf is) instruction i laid (omega (arith, instructions-length is)) .0
+      ∙ consecutive-at processors 0 0 (instructionsOf is) instruction i consecutive (omega (arith, instructions-length is)) .0
       ∙ omega arith)
 
   next-count : operationCount processors (take (suc i) (instructionsOf is)) ≡ t .count + length (roles processors (kindOf (getD (is .kinds) i 0)))

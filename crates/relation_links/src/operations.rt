@@ -5,7 +5,7 @@ ghost use Prim.Native.Nat.{_+_, _<_, _≤_};
 ghost use lib.ListN.{length, getD};
 ghost use Rattle.base.specs.Lists.{for};
 ghost use Rattle.model.specs.Execution.{kindOf, roles, operationCount, operationsOf};
-ghost use Rattle.model.proofs.Accepted.{Laid};
+ghost use Rattle.model.specs.Accepted.{Consecutive};
 ghost use Rattle.record_decoded.specs.Decoded.{instructionAt, instructionsOf};
 ghost use Rattle.relation_links.specs.Operations.{tableOf, Tabled};
 use record_decoded::kind::kind_of;
@@ -54,7 +54,7 @@ fn with_operations(
 // The operations of all instructions, by number.
 pub fn operations_of(is: Instructions, processors: usize) -> Operations
     requires { ⌜ (processors ≤ 8) × (is .count ≤ 40) × (operationCount processors (instructionsOf is) ≤ 128) ⌝ }
-    requires { ⌜ Laid processors 0 0 (instructionsOf is) ⌝ }
+    requires { ⌜ Consecutive processors 0 0 (instructionsOf is) ⌝ }
     ensures { λ r. ⌜ Tabled is r (for (instructionsOf is) (operationsOf processors)) (operationCount processors (instructionsOf is)) ⌝ }
 {
     let n = is.count;

@@ -33,7 +33,7 @@ unfolding marksBy packed packedOn
 put-together same own earlier overlaps given a b of-a of-b h1 h2 h3 h4 h5 h6 = cc (h1, h2, h3, h4, h5, h6)
 
 -- the first is neither the second nor earlier
-pub apart-together : (same own earlier overlaps given : Bool) (a b : model.Kind) (of-a of-b : model.Attribute) {r memory : ℕ} → (same || earlier) ≡ false
+pub unrelated-together : (same own earlier overlaps given : Bool) (a b : model.Kind) (of-a of-b : model.Attribute) {r memory : ℕ} → (same || earlier) ≡ false
     → r ≡ cond given 32 0 + 128 * memory
     → memory ≡ packed (
     (isStore a && isStore b && (not same && overlaps && ((isWB of-a || isUC of-a) && (isWB of-b || isUC of-b))))
@@ -42,12 +42,12 @@ pub apart-together : (same own earlier overlaps given : Bool) (a b : model.Kind)
     ∷ [])
     → r ≡ marksBy same own earlier overlaps given a b of-a of-b
 unfolding packedOn
-apart-together true own earlier overlaps given a b of-a of-b n h k = absurd (false≢true (sym n))
-apart-together false own true overlaps given a b of-a of-b n h k = absurd (false≢true (sym n))
-apart-together false own false overlaps true a b of-a of-b {r} {memory} n h k =
+unrelated-together true own earlier overlaps given a b of-a of-b n h k = absurd (false≢true (sym n))
+unrelated-together false own true overlaps given a b of-a of-b n h k = absurd (false≢true (sym n))
+unrelated-together false own false overlaps true a b of-a of-b {r} {memory} n h k =
     put-together false own false overlaps true a b of-a of-b {r = r} {program = 2 * (2 * (2 * (2 * (1 + 2 * (2 * memory)))))} {overlap-mark = 2 * (1 + 2 * (2 * memory))} {pair = 1 + 2 * (2 * memory)} {uncacheable = 2 * memory} {memory = memory}
     (omega arith) (omega arith) (omega arith) (omega arith) (omega arith) k
-apart-together false own false overlaps false a b of-a of-b {r} {memory} n h k =
+unrelated-together false own false overlaps false a b of-a of-b {r} {memory} n h k =
     put-together false own false overlaps false a b of-a of-b {r = r} {program = 2 * (2 * (2 * (2 * (2 * (2 * memory)))))} {overlap-mark = 2 * (2 * (2 * memory))} {pair = 2 * (2 * memory)} {uncacheable = 2 * memory} {memory = memory}
     (omega arith) (omega arith) (omega arith) (omega arith) (omega arith) k
 

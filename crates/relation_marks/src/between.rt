@@ -76,7 +76,7 @@ fn memory_marks(
 }
 
 // All marks of two instructions of which the first is neither the second nor an earlier one of its program: those of memory, and of a pair.
-fn apart_marks(memory: u16, given: bool) -> u16
+fn unrelated_marks(memory: u16, given: bool) -> u16
     requires { ⌜ memory ≤ 7 ⌝ }
     ensures { λ r. ⌜ r ≡ cond given 32 0 + 128 * memory ⌝ }
 {
@@ -103,7 +103,7 @@ fn marks_by(
 {
     let memory = memory_marks(same, own, overlaps, first, second, of_first, of_second);
     if !either(same, earlier) {
-        return apart_marks(memory, given);
+        return unrelated_marks(memory, given);
     }
     let uncacheable = with_mark(
         memory,

@@ -76,7 +76,7 @@ placed-none o = go (decLt o 128)
 
 module _ {n : ℕ} {xs places : List ℕ} (h : Placed n xs places) where
   pub placed-short : length xs ≤ 128
-  placed-short = omega (arith, h .few, distinct-length n xs (h .apart))
+  placed-short = omega (arith, h .few, distinct-length n xs (h .different))
 
   pub before-placed : (a b : ℕ) → before xs a b ≡ ltb (placed places a) (placed places b)
   before-placed a b = before-from 0 xs a b (omega (arith, placed-short)) ∙ sym (ap₂ ltb (h .stands a) (h .stands b))
@@ -111,19 +111,19 @@ pub record Placing-so-far (n : ℕ) (xs : List ℕ) (k : ℕ) (places : List ℕ
 
 pub placing-none : {n : ℕ} {xs places : List ℕ} → n ≤ 128 → length places ≡ 128 → ((o : ℕ) → placed places o ≡ 255) → Placing-so-far n xs 0 places
 unfolding distinct placeFrom
-placing-none {n} {xs} {places} f l h = record { within = omega arith; long = l; so-far = record { few = f; apart = refl; stands = h } }
+placing-none {n} {xs} {places} f l h = record { within = omega arith; long = l; so-far = record { few = f; different = refl; stands = h } }
 
 pub placing-short : {n k : ℕ} {xs places : List ℕ} → Placing-so-far n xs k places → k ≤ n
-placing-short {n} {k} {xs} inv = omega (arith, distinct-length n (take k xs) (inv .so-far .apart), length-take-le k xs (inv .within))
+placing-short {n} {k} {xs} inv = omega (arith, distinct-length n (take k xs) (inv .so-far .different), length-take-le k xs (inv .within))
 
 module _ {n : ℕ} {xs : List ℕ} {k : ℕ} {places : List ℕ} (inv : Placing-so-far n xs k places) (there : k < length xs) (x : ℕ) (is : x ≡ getD xs k 0) where
   one-more : take (k + 1) xs ≡ take k xs ++ (x ∷ [])
   one-more = ap (λ (j : ℕ). take j xs) (add-one k) ∙ take-suc xs k 0 there ∙ ap (λ (o : ℕ). take k xs ++ (o ∷ [])) (sym is)
 
-  apart-more : distinct n [] (take (k + 1) xs) ≡ (ltb x n && not (ltb (placed places x) 255))
-  apart-more =
+  different-more : distinct n [] (take (k + 1) xs) ≡ (ltb x n && not (ltb (placed places x) 255))
+  different-more =
       ap (distinct n []) one-more ∙ distinct-append n [] (take k xs) x
-      ∙ ap₂ (λ (s t : Bool). s && (ltb x n && not t)) (inv .so-far .apart) (member-placed (inv .so-far) x)
+      ∙ ap₂ (λ (s t : Bool). s && (ltb x n && not t)) (inv .so-far .different) (member-placed (inv .so-far) x)
 
   -- the next entry is an operation below n that does not stand yet
   pub placing-more : x < n → placed places x ≡ 255 → Placing-so-far n xs (k + 1) (set places x k)
@@ -131,14 +131,14 @@ module _ {n : ℕ} {xs : List ℕ} {k : ℕ} {places : List ℕ} (inv : Placing-
   placing-more h e = record {
     within = omega arith;
     long = length-set places x k ∙ inv .long;
-    so-far = record { few = inv .so-far .few; apart = apart; stands = λ o. stands o (ℕ-discrete o x) };
+    so-far = record { few = inv .so-far .few; different = different; stands = λ o. stands o (ℕ-discrete o x) };
   }
     where
       new : ltb (placed places x) 255 ≡ false
       new = le-ltb (placed places x) 255 (omega (arith, e))
 
-      apart : distinct n [] (take (k + 1) xs) ≡ true
-      apart = apart-more ∙ and-both (lt-ltb x n h) (ap not new)
+      different : distinct n [] (take (k + 1) xs) ≡ true
+      different = different-more ∙ and-both (lt-ltb x n h) (ap not new)
 
       absent : member (take k xs) x ≡ false
       absent = member-placed (inv .so-far) x ∙ new
@@ -164,11 +164,11 @@ module _ {n : ℕ} {xs : List ℕ} {k : ℕ} {places : List ℕ} (inv : Placing-
 
   -- it is not below n
   pub placing-large : n ≤ x → distinct n [] xs ≡ false
-  placing-large h = fails (apart-more ∙ ap (λ (b : Bool). b && not (ltb (placed places x) 255)) (le-ltb x n h))
+  placing-large h = fails (different-more ∙ ap (λ (b : Bool). b && not (ltb (placed places x) 255)) (le-ltb x n h))
 
   -- it stands already
   pub placing-twice : (placed places x ≡ 255 → ⊥) → distinct n [] xs ≡ false
-  placing-twice h = fails (apart-more ∙ ap (λ (b : Bool). ltb x n && not b) stood ∙ and-false (ltb x n))
+  placing-twice h = fails (different-more ∙ ap (λ (b : Bool). ltb x n && not b) stood ∙ and-false (ltb x n))
     where
       stood : ltb (placed places x) 255 ≡ true
       stood = split (ltb (placed places x) 255) (λ t. t)

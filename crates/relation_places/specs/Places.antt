@@ -28,7 +28,7 @@ beforeBy places a b = ltb (placed places a) (placed places b)
 -- the table holds the places of an order of different operations, of n
 pub record Placed (n : ℕ) (xs places : List ℕ) : Type 0 where
   pub few : n ≤ 128
-  pub apart : distinct n [] xs ≡ true
+  pub different : distinct n [] xs ≡ true
   pub stands : (o : ℕ) → placed places o ≡ placeFrom 0 xs o
 
 -- what placing the operations of an order, of n, comes to

@@ -17,10 +17,10 @@ use Rattle.search_sets.specs.Set.{holds}
 use Rattle.search_sets.proofs.Bit.{has-and, has-or}
 use Rattle.search_sets.proofs.Laws.{has-minus, has-xor, zero-has, bits-zero}
 use Rattle.search_sets.proofs.Members.{any-skips, holds-none}
-use Rattle.search_admit.specs.Rows.{field, rivals, bypasses, writtenBits, readBits, readData, visibleWord, ownWord, ownOf, localOf, merged, wordsWith}
-use Rattle.search_admit.specs.Fits.{same, waitsFor, refused, pending, localBit, sees}
+use Rattle.search_admit.specs.Rows.{field, awaited, bypasses, writtenBits, readBits, readData, visibleWord, ownWord, ownOf, localOf, merged, wordsWith}
+use Rattle.search_admit.specs.Fits.{bothOrNeither, waitsFor, refused, pending, localBit, readsRecorded}
 
--- the ways out of the test of one rival
+-- the ways out of the test of one operation that may be waited for
 module _ (rows places : List ℕ) (x m : ℕ) {own-m own-x : ℕ} (is-m : own-m ≡ ownOf rows m) (is-x : own-x ≡ ownOf rows x) {r : Bool}
     (tells : r ≡ beforeBy places own-m own-x) where
   abbrev first : Bool
@@ -82,7 +82,7 @@ module _ (rows : List ℕ) (f x lo hi : ℕ) {slo shi : ℕ} {r : Bool} (low : s
   unfolding anyBelow
   any-missing test = any-skips _ 0 128 (omega arith) (λ m a l. ap (λ (b : Bool). b && test m) (none-missing m l))
 
-pub refused-by : (rows places : List ℕ) (lo hi x mlo mhi : ℕ) → ((k : ℕ) → holds mlo mhi k ≡ (rivals rows x k && not (holds lo hi k)))
+pub refused-by : (rows places : List ℕ) (lo hi x mlo mhi : ℕ) → ((k : ℕ) → holds mlo mhi k ≡ (awaited rows x k && not (holds lo hi k)))
     → anyBelow 128 (λ m. holds mlo mhi m && waitsFor rows places x m) ≡ refused rows places lo hi x
 unfolding refused
 refused-by rows places lo hi x mlo mhi e =
@@ -132,7 +132,7 @@ module _ (own visible local recorded bits : ℕ) where
   differs = bitAnd (bitXor seen recorded) bits
 
   abbrev pub agreeing : ℕ → Bool
-  agreeing i = not (bit bits i) || same (cond (bit local i) (bit own i) (bit visible i)) (bit recorded i)
+  agreeing i = not (bit bits i) || bothOrNeither (cond (bit local i) (bit own i) (bit visible i)) (bit recorded i)
 
   seen-bit : (i : ℕ) → bit seen i ≡ cond (bit local i) (bit own i) (bit visible i)
   seen-bit i =
@@ -149,13 +149,13 @@ module _ (own visible local recorded bits : ℕ) where
       go false false false = refl
 
   differs-bit : (i : ℕ) → not (bit differs i) ≡ agreeing i
-  unfolding same
+  unfolding bothOrNeither
   differs-bit i =
       ap not (has-and (bitXor seen recorded) bits i ∙ ap (λ (b : Bool). b && bit bits i) (has-xor seen recorded i))
       ∙ ap (λ (s : Bool). not (cond s (not (bit recorded i)) (bit recorded i) && bit bits i)) (seen-bit i)
       ∙ go (cond (bit local i) (bit own i) (bit visible i)) (bit recorded i) (bit bits i)
     where
-      go : (s d b : Bool) → not (cond s (not d) d && b) ≡ (not b || same s d)
+      go : (s d b : Bool) → not (cond s (not d) d && b) ≡ (not b || bothOrNeither s d)
       go true true true = refl
       go true true false = refl
       go true false true = refl
@@ -172,24 +172,24 @@ module _ (own visible local recorded bits : ℕ) where
       ∙ all-same _ _ 64 (λ i l. differs-bit i)
 
 -- what the R x sees, from its row
-pub sees-is : (rows words : List ℕ) (lo hi x : ℕ) (local : ℕ) {own visible recorded bits : ℕ} {r : Bool} → r ≡ allBelow 64 (agreeing own visible local recorded bits)
+pub reads-is : (rows words : List ℕ) (lo hi x : ℕ) (local : ℕ) {own visible recorded bits : ℕ} {r : Bool} → r ≡ allBelow 64 (agreeing own visible local recorded bits)
     → own ≡ getD words (ownWord rows x) 0 → visible ≡ getD words (visibleWord rows x) 0 → ((i : ℕ) → bit local i ≡ localBit rows lo hi x i)
-    → recorded ≡ readData rows x → bits ≡ readBits rows x → r ≡ sees rows lo hi words x
-unfolding sees
-sees-is rows words lo hi x local {own} {visible} {recorded} {bits} e o v l d b =
-    e ∙ all-same _ _ 64 (λ i k. ap (λ (u : Bool). not (bit bits i) || same (cond u (bit own i) (bit visible i)) (bit recorded i)) (l i)
+    → recorded ≡ readData rows x → bits ≡ readBits rows x → r ≡ readsRecorded rows lo hi words x
+unfolding readsRecorded
+reads-is rows words lo hi x local {own} {visible} {recorded} {bits} e o v l d b =
+    e ∙ all-same _ _ 64 (λ i k. ap (λ (u : Bool). not (bit bits i) || bothOrNeither (cond u (bit own i) (bit visible i)) (bit recorded i)) (l i)
     ∙ by i (localBit rows lo hi x i))
   where
-    by : (i : ℕ) (u : Bool) → (not (bit bits i) || same (cond u (bit own i) (bit visible i)) (bit recorded i))
-        ≡ (not (bit (readBits rows x) i) || same (cond u (bit (getD words (ownWord rows x) 0) i) (bit (getD words (visibleWord rows x) 0) i)) (bit (readData rows x) i))
+    by : (i : ℕ) (u : Bool) → (not (bit bits i) || bothOrNeither (cond u (bit own i) (bit visible i)) (bit recorded i))
+        ≡ (not (bit (readBits rows x) i) || bothOrNeither (cond u (bit (getD words (ownWord rows x) 0) i) (bit (getD words (visibleWord rows x) 0) i)) (bit (readData rows x) i))
     by i u = rw (o, v, d, b) refl
 
 -- nothing is read
-pub sees-nothing : (rows words : List ℕ) (lo hi x : ℕ) → readBits rows x ≡ 0 → true ≡ sees rows lo hi words x
-unfolding sees
-sees-nothing rows words lo hi x z =
-    sym (all-below _ 64 (λ i l. ap (λ (b : ℕ). not (bit b i) || same (cond (localBit rows lo hi x i) (bit (getD words (ownWord rows x) 0) i) (bit (getD words (visibleWord rows x) 0) i)) (bit (readData rows x) i)) z
-    ∙ ap (λ (b : Bool). not b || same (cond (localBit rows lo hi x i) (bit (getD words (ownWord rows x) 0) i) (bit (getD words (visibleWord rows x) 0) i)) (bit (readData rows x) i)) (zero-has i)))
+pub reads-nothing : (rows words : List ℕ) (lo hi x : ℕ) → readBits rows x ≡ 0 → true ≡ readsRecorded rows lo hi words x
+unfolding readsRecorded
+reads-nothing rows words lo hi x z =
+    sym (all-below _ 64 (λ i l. ap (λ (b : ℕ). not (bit b i) || bothOrNeither (cond (localBit rows lo hi x i) (bit (getD words (ownWord rows x) 0) i) (bit (getD words (visibleWord rows x) 0) i)) (bit (readData rows x) i)) z
+    ∙ ap (λ (b : Bool). not b || bothOrNeither (cond (localBit rows lo hi x i) (bit (getD words (ownWord rows x) 0) i) (bit (getD words (visibleWord rows x) 0) i)) (bit (readData rows x) i)) (zero-has i)))
 
 -- a word written over
 pub written : (rows words : List ℕ) (x : ℕ) {at bits data' : ℕ} → at ≡ field rows 10 x → bits ≡ writtenBits rows x → data' ≡ field rows 9 x

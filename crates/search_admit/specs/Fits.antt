@@ -10,7 +10,7 @@ use Rattle.base.specs.Below.{allBelow, anyBelow}
 use Rattle.base.specs.Bits.{bit}
 use Rattle.relation_places.specs.Places.{beforeBy, Placed}
 use Rattle.search_sets.specs.Set.{holds}
-use Rattle.search_admit.specs.Rows.{precedes, partnerBy, rivals, bypasses, writtenBits, readBits, readData, visibleWord, ownWord, ownOf, localOf, wordsAfter}
+use Rattle.search_admit.specs.Rows.{precedes, partnerBy, awaited, bypasses, writtenBits, readBits, readData, visibleWord, ownWord, ownOf, localOf, wordsAfter}
 
 -- the last entry; 255 where there is none
 unfoldable pub lastEntry : List ℕ → ℕ
@@ -27,9 +27,9 @@ unfoldable pub dueOf : List ℕ → List ℕ → ℕ → ℕ → ℕ → Bool
 dueOf rows xs lo hi i = cond (ltb (lastEntry xs) 128) (dueAfter rows (lastEntry xs) lo hi i) true
 
 -- both or neither
-unfoldable pub same : Bool → Bool → Bool
-same true b = b
-same false b = not b
+unfoldable pub bothOrNeither : Bool → Bool → Bool
+bothOrNeither true b = b
+bothOrNeither false b = not b
 
 module _ (rows places : List ℕ) where
   -- Operation x must wait for m, which does not stand. Rule 10: the own RV of m's store stands before that of x's. Rules 9 and 14: both are own RVs, or
@@ -41,7 +41,7 @@ module _ (rows places : List ℕ) where
 
   -- rules 9, 10 and 14, behind what stands
   unfoldable pub refused : ℕ → ℕ → ℕ → Bool
-  refused lo hi x = anyBelow 128 (λ m. rivals rows x m && not (holds lo hi m) && waitsFor x m)
+  refused lo hi x = anyBelow 128 (λ m. awaited rows x m && not (holds lo hi m) && waitsFor x m)
 
 module _ (rows : List ℕ) (lo hi : ℕ) where
   -- the LV of m's store stands and its own RV does not: an R of its processor reads its bytes
@@ -53,10 +53,10 @@ module _ (rows : List ℕ) (lo hi : ℕ) where
   localBit x i = anyBelow 128 (λ m. pending x m && bit (writtenBits rows m) i)
 
   -- rule 11: each bit that x reads is as recorded
-  unfoldable pub sees : List ℕ → ℕ → Bool
-  sees words x =
+  unfoldable pub readsRecorded : List ℕ → ℕ → Bool
+  readsRecorded words x =
       allBelow 64 (λ i. not (bit (readBits rows x) i)
-      || same (cond (localBit x i) (bit (getD words (ownWord rows x) 0) i) (bit (getD words (visibleWord rows x) 0) i)) (bit (readData rows x) i))
+      || bothOrNeither (cond (localBit x i) (bit (getD words (ownWord rows x) 0) i) (bit (getD words (visibleWord rows x) 0) i)) (bit (readData rows x) i))
 
 -- what must stand before x stands
 abbrev pub ready : List ℕ → ℕ → ℕ → ℕ → Bool
@@ -64,11 +64,11 @@ ready rows lo hi x = allBelow 128 (λ a. not (precedes rows x a) || holds lo hi 
 
 -- x is ready, and reads what is recorded
 unfoldable pub enabled : List ℕ → ℕ → ℕ → List ℕ → ℕ → Bool
-enabled rows lo hi words x = ready rows lo hi x && sees rows lo hi words x
+enabled rows lo hi words x = ready rows lo hi x && readsRecorded rows lo hi words x
 
 -- the tests of operation x, which does not stand, behind what stands; rule 12 aside
 unfoldable pub fitsBy : List ℕ → List ℕ → ℕ → ℕ → List ℕ → ℕ → Bool
-fitsBy rows places lo hi words x = ready rows lo hi x && (not (refused rows places lo hi x) && sees rows lo hi words x)
+fitsBy rows places lo hi words x = ready rows lo hi x && (not (refused rows places lo hi x) && readsRecorded rows lo hi words x)
 
 -- the two words have the operations of a prefix
 abbrev pub Standing : List ℕ → ℕ → ℕ → Type 0

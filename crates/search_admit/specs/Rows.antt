@@ -39,8 +39,8 @@ module _ (rows : List ℕ) where
   partnerBy x a = setBy rows 2 x a
 
   -- x may have to wait for a by rule 9, 10 or 14
-  abbrev pub rivals : ℕ → ℕ → Bool
-  rivals x a = setBy rows 4 x a
+  abbrev pub awaited : ℕ → ℕ → Bool
+  awaited x a = setBy rows 4 x a
 
   -- a is the own RV of a store whose bytes the R x may read before it
   abbrev pub bypasses : ℕ → ℕ → Bool
@@ -126,8 +126,8 @@ writes role = eqb role 1 || leb 3 role
 
 -- The operation for which one with a role may have to wait because of an instruction, by the marks of the two: of a conflicting store the RV to the same
 -- processor, for an R the own RV of a UC store.
-unfoldable pub rivalBy : ℕ → ℕ → ℕ → ℕ → ℕ → Bool
-rivalBy marks role first processor a =
+unfoldable pub awaitedBy : ℕ → ℕ → ℕ → ℕ → ℕ → Bool
+awaitedBy marks role first processor a =
     cond (eqb role 0) (hasMark marks bypassMark && eqb a (1 + first + processor)) (leb 3 role && (hasMark marks conflictMark && eqb a (1 + first + (role - 3))))
 
 module _ (x : Execution) (t : Operations) (marks : List (List ℕ)) (o : ℕ) where
@@ -144,25 +144,25 @@ module _ (x : Execution) (t : Operations) (marks : List (List ℕ)) (o : ℕ) wh
   line = getD (x .instructions .addresses) owner 0 / 8
 
   -- o may have to wait for a because of instruction v
-  abbrev pub rivalOf : ℕ → ℕ → Bool
-  rivalOf v a = rivalBy (markAt marks v owner) role (getD (x .instructions .firsts) v 0) (getD (x .instructions .processors) v 0) a
+  abbrev pub awaitedOf : ℕ → ℕ → Bool
+  awaitedOf v a = awaitedBy (markAt marks v owner) role (getD (x .instructions .firsts) v 0) (getD (x .instructions .processors) v 0) a
 
   -- instruction v is a store of o's processor to its line
-  abbrev pub besides : ℕ → Bool
-  besides v =
+  abbrev pub storesToLine : ℕ → Bool
+  storesToLine v =
       isStore (kindOf (getD (x .instructions .kinds) v 0))
       && (eqb (getD (x .instructions .processors) v 0) processor && eqb (getD (x .instructions .addresses) v 0 / 8) line)
 
   -- o is an R, and a the own RV of such a store v
   abbrev pub bypassOf : ℕ → ℕ → Bool
-  bypassOf v a = eqb role 0 && (besides v && eqb a (1 + getD (x .instructions .firsts) v 0 + getD (x .instructions .processors) v 0))
+  bypassOf v a = eqb role 0 && (storesToLine v && eqb a (1 + getD (x .instructions .firsts) v 0 + getD (x .instructions .processors) v 0))
 
   pub record RowOf (row : ℕ → ℕ) : Type 0 where
     pub preds-are : (a : ℕ) → a < 128
         → holds (row 0) (row 1) a
         ≡ (ltb a (operations (executionOf x)) && linked (executionOf x) (operationAt (x .instructions) t a) (operationAt (x .instructions) t o))
     pub partners-are : (a : ℕ) → a < 128 → holds (row 2) (row 3) a ≡ partner x o a
-    pub rivals-are : (a : ℕ) → a < 128 → holds (row 4) (row 5) a ≡ anyBelow (x .instructions .count) (λ v. rivalOf v a)
+    pub awaited-are : (a : ℕ) → a < 128 → holds (row 4) (row 5) a ≡ anyBelow (x .instructions .count) (λ v. awaitedOf v a)
     pub bypasses-are : (a : ℕ) → a < 128 → holds (row 6) (row 7) a ≡ anyBelow (x .instructions .count) (λ v. bypassOf v a)
     pub writes-bits : (i : ℕ) → i < 64 → bit (row 8) i ≡ (writes role && covers x owner i)
     pub writes-data : (i : ℕ) → i < 64 → bit (row 9) i ≡ (writes role && dataBit x owner i)
@@ -184,7 +184,7 @@ Initial x words =
     (c i : ℕ) → c < 128 → i < 64 → bit (getD words c 0) i ≡ bit (getD (x .lines .initial) (8 * (c % 8) + i / 8) 0) (i % 8)
 
 -- the rows and the first words hold what they should of the execution
-pub record Holds (x : Execution) (t : Operations) (marks : List (List ℕ)) (rows : List ℕ) : Type 0 where
+pub record RowsMean (x : Execution) (t : Operations) (marks : List (List ℕ)) (rows : List ℕ) : Type 0 where
   pub compiled : Compiled x t marks
   pub rowed : (o : ℕ) → o < operations (executionOf x) → RowOf x t marks o (λ f. field rows f o)
   pub whole : length rows ≡ 2304

@@ -8,7 +8,7 @@ ghost use Rattle.base.specs.Bits.{bit};
 ghost use Rattle.search_sets.specs.Set.{holds};
 ghost use Rattle.search_admit.specs.Rows.{field, writtenBits, writtenWord, localOf, wordsWith};
 ghost use lib.Dec.{ltb};
-ghost use Rattle.search_admit.specs.Fits.{same, waitsFor, refused, localBit, sees, enabled};
+ghost use Rattle.search_admit.specs.Fits.{bothOrNeither, waitsFor, refused, localBit, readsRecorded, enabled};
 use relation_places::before;
 use search_sets::Set;
 use search_sets::first;
@@ -21,7 +21,7 @@ pub const PREDS: usize = 0;
 
 pub const PARTNERS: usize = 2;
 
-pub const RIVALS: usize = 4;
+pub const AWAITED: usize = 4;
 
 pub const BYPASSES: usize = 6;
 
@@ -110,11 +110,11 @@ pub fn is_refused(rows: &[u64; 2304], places: &[u8; 128], stand: Set, x: usize) 
     requires { ⌜ x < 128 ⌝ }
     ensures { λ r. ⌜ r ≡ refused (now (rows .entry)) (now (places .entry)) (stand .lo) (stand .hi) x ⌝ }
 {
-    let rivals = set_of(rows, x, RIVALS);
-    if subset(rivals, stand) {
+    let awaited = set_of(rows, x, AWAITED);
+    if subset(awaited, stand) {
         return false;
     }
-    waits_for_any(rows, places, minus(rivals, stand), x)
+    waits_for_any(rows, places, minus(awaited, stand), x)
 }
 
 // The bits that the store of m wrote, where its LV stands.
@@ -160,7 +160,7 @@ fn local_bits(rows: &[u64; 2304], stand: Set, x: usize) -> u64
 
 // Whether what is seen, of `own` where `local` is set and of `visible` elsewhere, is `data` in some bits.
 fn agrees(own: u64, visible: u64, local: u64, data: u64, bits: u64) -> bool
-    ensures { λ r. ⌜ r ≡ allBelow 64 (λ (i : ℕ). not (bit bits i) || same (cond (bit local i) (bit own i) (bit visible i)) (bit «data» i)) ⌝ }
+    ensures { λ r. ⌜ r ≡ allBelow 64 (λ (i : ℕ). not (bit bits i) || bothOrNeither (cond (bit local i) (bit own i) (bit visible i)) (bit «data» i)) ⌝ }
 {
     let seen = (own & local) | (visible ^ (visible & local));
     (seen ^ data) & bits == 0
@@ -169,7 +169,7 @@ fn agrees(own: u64, visible: u64, local: u64, data: u64, bits: u64) -> bool
 // Rule 11: whether operation x reads what is recorded.
 fn reads_right(rows: &[u64; 2304], words: &[u64; 128], stand: Set, x: usize) -> bool
     requires { ⌜ x < 128 ⌝ }
-    ensures { λ r. ⌜ r ≡ sees (now (rows .entry)) (stand .lo) (stand .hi) (now (words .entry)) x ⌝ }
+    ensures { λ r. ⌜ r ≡ readsRecorded (now (rows .entry)) (stand .lo) (stand .hi) (now (words .entry)) x ⌝ }
 {
     let bits = field_of(rows, x, READ_BITS);
     if bits == 0 {

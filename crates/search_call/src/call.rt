@@ -6,10 +6,10 @@ ghost use lib.ListN.{length, take};
 ghost use mathlib.Core.List.{[]};
 ghost use Rattle.base.specs.Lists.{distinct};
 ghost use Rattle.relation_links.specs.Compiled.{Compiled};
-ghost use Rattle.model.specs.Calls.{says, searchReply, searchCall};
-ghost use Rattle.model.proofs.Accepted.{Accepted};
+ghost use Rattle.model.specs.Calls.{says, searchPosition, searchSaved, searchReply, searchCall};
+ghost use Rattle.model.specs.Accepted.{Accepted};
 ghost use Rattle.record_decoded.specs.Decoded.{executionOf};
-ghost use Rattle.search_call.specs.Calls.{answerMeant, replyOf, checked, searched};
+ghost use Rattle.search_call.specs.Calls.{answerMeant, replyOf};
 ghost use Rattle.search_resume.specs.Replies.{verdictMeant};
 ghost use Rattle.search_call.specs.declared.call.SearchAnswer.the-variants.{Refused};
 use record_decoded::position::saved_position;
@@ -21,9 +21,9 @@ use relation_links::operations::Operations;
 use relation_links::operations::operations_of;
 use relation_marks::between::all_marks;
 use relation_places::place_all;
-use search_enabled::moved_by;
-use search_resume::drive::Verdict;
-use search_resume::drive::drive;
+use search_enabled::affected_by;
+use search_resume::steps::Verdict;
+use search_resume::steps::search_from;
 use search_rows::table::rows_of;
 
 pub enum SearchAnswer {
@@ -73,13 +73,13 @@ fn search_on(
 ) -> SearchReply
     requires { ⌜ Accepted (executionOf x) × Compiled x t (now marks) ⌝ }
     requires { ⌜ (saved ≤ t .count) × (t .count ≤ length (now buffer)) × (distinct (t .count) [] (take saved (now buffer)) ≡ true) ⌝ }
-    ensures { λ r. ⌜ replyOf r (now (buffer .exit)) ≡ searchReply saved (now (buffer .entry)) (checked (executionOf x) (take saved (now (buffer .entry))) allowance) ⌝ }
+    ensures { λ r. ⌜ replyOf r (now (buffer .exit)) ≡ searchReply saved (now (buffer .entry)) (searchPosition (executionOf x) (take saved (now (buffer .entry))) allowance) ⌝ }
 {
     let n = t.count;
     let rows = rows_of(x, t, marks);
     let given = saved_position(buffer, saved);
-    let moved = moved_by(n, &rows);
-    let outcome = drive(n, given, allowance, &rows, &moved);
+    let affected = affected_by(n, &rows);
+    let outcome = search_from(n, given, allowance, &rows, &affected);
     let consistent = outcome.consistent;
     let verdict = outcome.verdict;
     let steps = outcome.steps;
@@ -99,7 +99,7 @@ fn search_on(
 // The search of an accepted execution: questions 18 to 21, then the steps.
 fn search_execution(x: Execution, buffer: &mut [u8], saved: usize, allowance: u32) -> SearchReply
     requires { ⌜ Accepted (executionOf x) ⌝ }
-    ensures { λ r. ⌜ replyOf r (now (buffer .exit)) ≡ searchReply saved (now (buffer .entry)) (searched (executionOf x) (now (buffer .entry)) saved allowance) ⌝ }
+    ensures { λ r. ⌜ replyOf r (now (buffer .exit)) ≡ searchReply saved (now (buffer .entry)) (searchSaved (executionOf x) (now (buffer .entry)) saved allowance) ⌝ }
 {
     let t = operations_of(x.instructions, x.processors);
     let n = t.count;

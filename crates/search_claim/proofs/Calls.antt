@@ -16,8 +16,9 @@ use Rattle.model.specs.Execution.{Execution, operations}
 use Rattle.model.specs.Questions.{found, next, ask, readRecord}
 use Rattle.model.specs.Rules.{rules, keeps, consistent}
 use Rattle.model.specs.Search.{allowed, forbidden, unfinished, Outcome, reached}
-use Rattle.model.specs.Calls.{Answer, says, refuses, answerOf, searching, SearchReply, searchReply, searchCall}
-use Rattle.model.specs.PointThree.{Call, proper, other, Course, start, isRefuses, called, ended, course, Left, entryOf, total}
+use Rattle.model.specs.Calls.{Answer, says, refuses, andThen, asks, answerOf, readAll, searchPosition, searchSaved, searching, SearchReply, searchReply, searchCall}
+use Rattle.model.specs.Courses.{Call, proper, other, Course, start, isRefuses, called, ended, course}
+use Rattle.search_claim.specs.PointThree.{Left, entryOf, total}
 use Rattle.model.proofs.Legal.{consistent-ascend, consistent-are}
 use Rattle.search_claim.proofs.Reach.{outcome, outcomeAt, search-reach}
 use Rattle.search_claim.proofs.Orders.{prefixAt, prefix-member, isFull}
@@ -31,7 +32,7 @@ pub data Stage (e : Execution) (t : Course) : Type 0 where
   exhausted : t .answer ≡ some (says forbidden) → total e ≤ t .sum → isFull e (prefixAt e (total e)) ≡ false → Left t (t .given) → Stage e t
 
 -- The invariant of a course over a buffer that came as b
-pub record Kept (e : Execution) (b : List ℕ) (t : Course) : Type 0 where
+pub record CourseInvariant (e : Execution) (b : List ℕ) (t : Course) : Type 0 where
   pub all-accepted : t .accepted ≡ true
   pub steps-are : t .steps ≡ min (t .sum) (total e)
   pub buffer-length : length (t .buffer) ≡ length b
@@ -39,7 +40,7 @@ pub record Kept (e : Execution) (b : List ℕ) (t : Course) : Type 0 where
   pub stage : Stage e t
 
 -- it holds where nothing was called
-keeps-start : (e : Execution) (b : List ℕ) → Kept e b (start b)
+keeps-start : (e : Execution) (b : List ℕ) → CourseInvariant e b (start b)
 unfolding start entryOf
 keeps-start e b = record {
   all-accepted = refl;
@@ -63,7 +64,7 @@ here e t (exhausted a m f left) h = clash (ap ended a) h
 other-same : (bytes others : List ℕ) (index size allowance : ℕ) (t : Course) → (called bytes (other others index size allowance) t) .refused ≡ true
     → called bytes (other others index size allowance) t ≡ t
 unfolding called searchCall searchReply
-other-same bytes others index size allowance t h = go (answerOf (searching (take size (drop index (t .buffer))) (t .length) allowance others)) h
+other-same bytes others index size allowance t h = go (searching others (take size (drop index (t .buffer))) (t .length) allowance) h
   where
     put : SearchReply → Course
     put r = record {
@@ -122,8 +123,8 @@ heard-left : (t : Course) (allowance : ℕ) (o : Outcome) → Left (heard t allo
 heard-left t allowance o = record { length-is = refl; entries-are = take-append-seam (o .position) (drop (length (o .position)) (t .buffer)) }
 
 -- it holds after an accepted call, where the position left has room and the steps and the stage are right
-keeps-heard : (e : Execution) (b : List ℕ) (t : Course) (allowance : ℕ) (o : Outcome) → Kept e b t → length (o .position) ≤ length b
-    → t .steps + o .steps ≡ min (t .sum + allowance) (total e) → Stage e (heard t allowance o) → Kept e b (heard t allowance o)
+keeps-heard : (e : Execution) (b : List ℕ) (t : Course) (allowance : ℕ) (o : Outcome) → CourseInvariant e b t → length (o .position) ≤ length b
+    → t .steps + o .steps ≡ min (t .sum + allowance) (total e) → Stage e (heard t allowance o) → CourseInvariant e b (heard t allowance o)
 unfolding entryOf
 keeps-heard e b t allowance o k short counted stage = record {
   all-accepted = rw (k .all-accepted);
@@ -144,7 +145,7 @@ module _ (bytes : List ℕ) (e : Execution) (rest : List ℕ) (read : readRecord
   -- a call given the record and the whole buffer, with a prefix of the enumeration at its front, passes questions 18 to 21
   proper-heard : (t : Course) (allowance s : ℕ) → operations e ≤ length (t .buffer) → s ≤ total e → Left t (prefixAt e s)
       → called bytes (proper allowance) t ≡ heard t allowance (outcomeAt (operations e) (keeps (rules e)) s allowance)
-  unfolding called searchCall searching searchReply answerOf next ask consistent
+  unfolding called searchCall searching readAll searchSaved searchPosition searchReply answerOf andThen asks consistent
   proper-heard t allowance s long within left =
       let (d, c) = consistent-are e (prefixAt e s) .0 (prefix-member e s within) in
       rw (
@@ -159,17 +160,17 @@ module _ (bytes : List ℕ) (e : Execution) (rest : List ℕ) (read : readRecord
 
   module _ (b : List ℕ) (room : operations e ≤ length b) where
     -- one call more keeps the invariant
-    proper-keeps : (t : Course) (allowance : ℕ) → Kept e b t → ended (t .answer) ≡ false → Kept e b (called bytes (proper allowance) t)
+    proper-keeps : (t : Course) (allowance : ℕ) → CourseInvariant e b t → ended (t .answer) ≡ false → CourseInvariant e b (called bytes (proper allowance) t)
     proper-keeps t allowance k h =
         let (within, left) = here e t (k .stage) h in
-        subst (Kept e b) (sym (proper-heard t allowance (t .sum) (omega (arith, k .buffer-length)) within left))
+        subst (CourseInvariant e b) (sym (proper-heard t allowance (t .sum) (omega (arith, k .buffer-length)) within left))
         (go (ltb (t .sum + allowance) (total e)) refl (isFull e (prefixAt e (total e))) refl within left)
       where
         o : Bool → Bool → Outcome
         o stops ends = outcome (operations e) (keeps (rules e)) stops ends (t .sum) allowance
 
         go : (stops : Bool) → ltb (t .sum + allowance) (total e) ≡ stops → (ends : Bool) → isFull e (prefixAt e (total e)) ≡ ends
-            → t .sum ≤ total e → Left t (prefixAt e (t .sum)) → Kept e b (heard t allowance (o stops ends))
+            → t .sum ≤ total e → Left t (prefixAt e (t .sum)) → CourseInvariant e b (heard t allowance (o stops ends))
         go true p ends q within left =
             let m : t .sum + allowance < total e = ltb-true (t .sum + allowance) (total e) p in
             keeps-heard e b t allowance (o true ends) k (omega (arith, prefix-short e (t .sum + allowance) (omega arith))) (omega (arith, k .steps-are))
@@ -184,13 +185,13 @@ module _ (bytes : List ℕ) (e : Execution) (rest : List ℕ) (read : readRecord
             (exhausted refl m q
             (subst (Left (heard t allowance (o false false))) (sym (position-given t (prefixAt e (t .sum)) left)) (heard-left t allowance (o false false))))
 
-    called-keeps : (call : Call) (t : Course) → Kept e b t → ended (t .answer) ≡ false → (called bytes call t) .refused ≡ true
-        → Kept e b (called bytes call t)
+    called-keeps : (call : Call) (t : Course) → CourseInvariant e b t → ended (t .answer) ≡ false → (called bytes call t) .refused ≡ true
+        → CourseInvariant e b (called bytes call t)
     called-keeps (proper allowance) t k h r = proper-keeps t allowance k h
-    called-keeps (other others index size allowance) t k h r = subst (Kept e b) (sym (other-same bytes others index size allowance t r)) k
+    called-keeps (other others index size allowance) t k h r = subst (CourseInvariant e b) (sym (other-same bytes others index size allowance t r)) k
 
     -- so does a list of calls, which stops at its end
-    course-keeps : (calls : List Call) (t : Course) → Kept e b t → (course bytes calls t) .refused ≡ true → Kept e b (course bytes calls t)
+    course-keeps : (calls : List Call) (t : Course) → CourseInvariant e b t → (course bytes calls t) .refused ≡ true → CourseInvariant e b (course bytes calls t)
     unfolding course
     course-keeps [] t k r = k
     course-keeps (call ∷ calls) t k r = go (ended (t .answer)) refl (course-keeps calls next-course) r
@@ -199,11 +200,11 @@ module _ (bytes : List ℕ) (e : Execution) (rest : List ℕ) (read : readRecord
         next-course = called bytes call t
 
         go : (h : Bool) → ended (t .answer) ≡ h
-            → (Kept e b next-course → (course bytes calls next-course) .refused ≡ true → Kept e b (course bytes calls next-course))
-            → (cond h t (course bytes calls next-course)) .refused ≡ true → Kept e b (cond h t (course bytes calls next-course))
+            → (CourseInvariant e b next-course → (course bytes calls next-course) .refused ≡ true → CourseInvariant e b (course bytes calls next-course))
+            → (cond h t (course bytes calls next-course)) .refused ≡ true → CourseInvariant e b (cond h t (course bytes calls next-course))
         go true h ih r = k
         go false h ih r = ih (called-keeps call t k h (refused-before bytes calls next-course r)) r
 
     -- every list of calls of which the others are refused
-    pub all-kept : (calls : List Call) → (course bytes calls (start b)) .refused ≡ true → Kept e b (course bytes calls (start b))
+    pub all-kept : (calls : List Call) → (course bytes calls (start b)) .refused ≡ true → CourseInvariant e b (course bytes calls (start b))
     all-kept calls r = course-keeps calls (start b) (keeps-start e b) r

@@ -10,15 +10,10 @@ use lib.Dec.{eqb}
 use Rattle.base.specs.Lists.{keep}
 use Rattle.base.specs.Lex.{lexLess, Less}
 use Rattle.base.proofs.Bools.{clash, is-false}
+use Rattle.base.proofs.Lists.{getD-member}
 use Rattle.base.proofs.Lex.{less-irreflexive, less-asymmetric}
 use Rattle.model.specs.Search.{upToFull}
 use Rattle.model.proofs.Prefixes.{Ascending}
-
--- each element of a list is a member of it
-pub getD-member : {A : Type 0} (l : List A) (i : ℕ) (d : A) → i < length l → List·Memᴰ (getD l i d) l
-getD-member [] i d h = absurd (omega arith)
-getD-member (x ∷ l) zero d h = List·Memᴰ·head refl
-getD-member (x ∷ l) (suc i) d h = List·Memᴰ·tail (getD-member l i d (omega arith))
 
 module _ {A : Type 0} (p : A → Bool) where
   -- a test that all elements pass keeps them all

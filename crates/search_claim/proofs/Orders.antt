@@ -11,12 +11,12 @@ use borrow.Author.Tests.{eq-eqb, eqb-true}
 use Rattle.base.specs.Lists.{distinct}
 use Rattle.base.proofs.Bools.{split, clash}
 use Rattle.model.specs.Execution.{Execution, operations}
-use Rattle.model.specs.Questions.{found, next, ask, readRecord}
+use Rattle.model.specs.Questions.{found, readRecord}
 use Rattle.model.specs.Rules.{rules, keeps}
 use Rattle.model.specs.Search.{prefixes, full}
-use Rattle.model.specs.Calls.{Judgement, Answer, says, refuses, answerOf, legal, judging, judgeCall}
-use Rattle.model.specs.PointThree.{Legal, NoneLegal, FirstLegal, total}
-use Rattle.model.proofs.Legal.{legal-consistent, consistent-ascend, consistent-are}
+use Rattle.model.specs.Calls.{Legal, NoneLegal}
+use Rattle.search_claim.specs.PointThree.{FirstLegal, total}
+use Rattle.model.proofs.Legal.{legal-passes, legal-consistent, consistent-ascend, consistent-are}
 use Rattle.search_claim.proofs.Reach.{reach, reach-member, last-first}
 
 -- consistent prefix number s of an execution, up to the first full one
@@ -31,23 +31,11 @@ prefix-member e s h = reach-member (operations e) (keeps (rules e)) (consistent-
 abbrev pub isFull : Execution → List ℕ → Bool
 isFull e = full (operations e) (keeps (rules e))
 
--- a refusal is not 'legal'
-refusal : {C : Type 0} {q : ℕ} → _≡_ {A = Answer Judgement} (refuses q) (says legal) → C
-refusal h = let z : _≡_ {A = ℕ} 0 1 = cc in absurd (omega arith)
-
 module _ (bytes : List ℕ) (e : Execution) (rest : List ℕ) (read : readRecord bytes ≡ found e rest) where
-  -- an order that the judge calls legal passes questions 16 and 17
-  legal-passes : (order : List ℕ) → Legal bytes order → (length order ≡ operations e) × (distinct (operations e) [] order ≡ true)
-  unfolding judgeCall judging answerOf next ask
-  legal-passes order h =
-      split (eqb (length order) (operations e))
-      (λ p. split (distinct (operations e) [] order) (λ q. (eqb-true (length order) (operations e) p, q)) (λ q. refusal (rw (read, p, q) at h)))
-      (λ p. refusal (rw (read, p) at h))
-
   -- a legal order is a full prefix of the enumeration, and such a prefix is a legal order
   legal-prefix : (order : List ℕ) → Legal bytes order → List·Memᴰ order (prefixes (operations e) (keeps (rules e))) × (isFull e order ≡ true)
   legal-prefix order h =
-      let (l, d) = legal-passes order h in
+      let (l, d) = legal-passes bytes e rest read order h in
       (consistent-are e order .1 (d, legal-consistent bytes e rest read order l d .0 h), eq-eqb (length order) (operations e) l)
 
   prefix-legal : (order : List ℕ) → List·Memᴰ order (prefixes (operations e) (keeps (rules e))) → isFull e order ≡ true → Legal bytes order

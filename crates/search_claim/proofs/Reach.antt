@@ -12,9 +12,10 @@ use lib.Dec.{eqb, ltb, eqb·zero-suc}
 use borrow.Author.Tests.{lt-ltb, le-ltb, ltb-true}
 use Rattle.base.specs.Lex.{Less}
 use Rattle.base.proofs.Bools.{split, clash, agree}
+use Rattle.base.proofs.Lists.{getD-member}
 use Rattle.model.specs.Search.{allowed, forbidden, unfinished, Outcome, extensions, prefixes, upToFull, after, full, reached, searchFrom}
 use Rattle.model.proofs.Prefixes.{Ascending}
-use Rattle.search_claim.proofs.Cut.{getD-member, keep-behind, At, cut-at, Ends, cut-ends}
+use Rattle.search_claim.proofs.Cut.{keep-behind, At, cut-at, Ends, cut-ends}
 
 module _ (n : ℕ) (c : List ℕ → Bool) where
   -- there is no extension by no operation

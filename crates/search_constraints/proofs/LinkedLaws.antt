@@ -6,7 +6,7 @@ use mathlib.Core.List.{List}
 use lib.Dec.{ltb}
 use borrow.Author.Tests.{ltb-true}
 use Rattle.model.specs.Rules.{linked}
-use Rattle.model.proofs.Accepted.{Accepted}
+use Rattle.model.specs.Accepted.{Accepted}
 use Rattle.record_decoded.specs.declared.types.Execution.{Execution}
 use Rattle.record_decoded.specs.Decoded.{executionOf}
 use Rattle.relation_links.specs.declared.operations.Operations.{Operations}
@@ -24,4 +24,4 @@ module _ {x : Execution} {t : Operations} {marks : List (List ℕ)} (h : Compile
   pub preds-mean : (o a : ℕ) → o < t .count
       → (ltb a (t .count) && linkedAt (x .instructions) t marks a o)
       ≡ (ltb a (t .count) && linked (executionOf x) (operationAt (x .instructions) t a) (operationAt (x .instructions) t o))
-  preds-mean o a lo = guarded (ltb a (t .count)) (λ y. linked-means h (accepted .laid) a o (ltb-true a (t .count) y) lo)
+  preds-mean o a lo = guarded (ltb a (t .count)) (λ y. linked-means h (accepted .consecutive) a o (ltb-true a (t .count) y) lo)

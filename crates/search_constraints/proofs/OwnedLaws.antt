@@ -10,12 +10,12 @@ use borrow.Author.Tests.{le-leb, leb-true, lt-ltb, ltb-true}
 use Rattle.base.specs.Lists.{below}
 use Rattle.base.specs.Below.{anyBelow}
 use Rattle.base.proofs.Bools.{agree, and-parts, and-both}
-use Rattle.base.proofs.Lists.{in-for, in-below, of-below}
+use Rattle.base.proofs.Lists.{in-for, in-below, of-below, getD-member, place-of}
 use Rattle.base.proofs.Tests.{any-passes, some-at}
 use Rattle.model.specs.Execution as model
 use Rattle.model.specs.Execution.{kindOf, Role, F, roles, numberOf, Operation, operationsOf, allOperations}
 use Rattle.model.proofs.Numbers.{role-number}
-use Rattle.search_reduction.proofs.Apart.{operationOf}
+use Rattle.search_reduction.proofs.Ownership.{operationOf}
 use Rattle.record_decoded.specs.Kinds.{roleNumbered}
 use Rattle.record_decoded.specs.declared.types.Execution.{Execution}
 use Rattle.record_decoded.specs.Decoded.{instructionAt, instructionsOf, executionOf}
@@ -28,17 +28,6 @@ use Rattle.relation_links.proofs.LinkLaws.{operation-role}
 use Rattle.relation_links.proofs.CompiledLaws.{operation-there, owner-there}
 use Rattle.search_constraints.specs.Rows.{linkedFrom, linkedOf}
 use Rattle.search_constraints.proofs.PartnerLaws.{operation-number}
-
-module _ {A : Type 0} (d : A) where
-  -- an element by its place, and the place of an element
-  in-place : (l : List A) (i : ℕ) → i < length l → List·Memᴰ (getD l i d) l
-  in-place [] i h = absurd (omega arith)
-  in-place (a ∷ l) zero h = List·Memᴰ·head refl
-  in-place (a ∷ l) (suc i) h = List·Memᴰ·tail (in-place l i (omega arith))
-
-  place-of : {a : A} {l : List A} → List·Memᴰ a l → (i : ℕ) × (i < length l) × (getD l i d ≡ a)
-  place-of (List·Memᴰ·head e) = (0, omega arith, sym e)
-  place-of (List·Memᴰ·tail m) = let (i, h, e) = place-of m in (suc i, omega arith, e)
 
 module _ {x : Execution} {t : Operations} {marks : List (List ℕ)} (h : Compiled x t marks) where
   abbrev its : ℕ → model.Instruction
@@ -80,7 +69,7 @@ module _ {x : Execution} {t : Operations} {marks : List (List ℕ)} (h : Compile
         let l2 = ltb-true a (first + length (rolesOf v)) u3 in
         let r = getD (rolesOf v) (a - first) F in
         let short : a - first < length (rolesOf v) = omega arith in
-        let (there, q) = listed v l r (in-place F (rolesOf v) (a - first) short) a (role-number (x .processors) (its v) (kindOf (getD (x .instructions .kinds) v 0)) (a - first) short ∙ omega arith) in
+        let (there, q) = listed v l r (getD-member (rolesOf v) (a - first) F short) a (role-number (x .processors) (its v) (kindOf (getD (x .instructions .kinds) v 0)) (a - first) short ∙ omega arith) in
         and-both (lt-ltb a (t .count) there)
         (ap₂ linkedAs (ap (λ (b : Operation). b .instruction .number) q) (ap (λ (b : Operation). b .role) q) ∙ u4)
 

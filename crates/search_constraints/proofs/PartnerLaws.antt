@@ -15,8 +15,8 @@ use Rattle.base.proofs.Lists.{any-witness, any-member, in-keep, of-keep, of-for
 use Rattle.model.specs.Execution as model
 use Rattle.model.specs.Execution.{Kind, ld, ld-acq, st, st-rel, mf, isStore, isRelease, Instruction, Role, LV, RV, roles, numberOf, Operation, operationsOf, operations, allOperations, stores, everyProcessor}
 use Rattle.model.specs.Rules.{hasRoleRV, inWB, remoteOf}
-use Rattle.model.proofs.Accepted.{Accepted}
-use Rattle.search_reduction.proofs.Apart.{RV-in, one-owner, in-processors, processor-in}
+use Rattle.model.specs.Accepted.{Accepted}
+use Rattle.search_reduction.proofs.Ownership.{RV-in, one-owner, in-processors, processor-in}
 use Rattle.record_decoded.specs.Kinds.{roleNumbered}
 use Rattle.record_decoded.specs.declared.types.Execution.{Execution}
 use Rattle.record_decoded.specs.Decoded.{instructionAt, executionOf}
@@ -119,9 +119,9 @@ module _ {x : Execution} {t : Operations} {marks : List (List ℕ)} (h : Compile
     unfolding operationAt
     role-in = operation-role (executionOf x) (operationAt (x .instructions) t o) (operation-there h o there)
 
-    numbered : o ≡ numberOf owner (roleNumbered (getD (t .roles) o 0))
+    number-is : o ≡ numberOf owner (roleNumbered (getD (t .roles) o 0))
     unfolding operationAt
-    numbered = operation-number (executionOf x) (operationAt (x .instructions) t o) (operation-there h o there)
+    number-is = operation-number (executionOf x) (operationAt (x .instructions) t o) (operation-there h o there)
 
     -- the mark of an st.rel to WB
     atomic : hasMark (markAt marks (getD (t .owners) o 0) (getD (t .owners) o 0)) 512 ≡ (isStore (owner .kind) && (isRelease (owner .kind) && inWB (executionOf x) owner))
@@ -161,7 +161,7 @@ module _ {x : Execution} {t : Operations} {marks : List (List ℕ)} (h : Compile
           let (is-store, k4) = and-parts (isStore (owner .kind)) (isRelease (owner .kind) && inWB (executionOf x) owner) (sym atomic ∙ mark) in
           let (q, r) = remote-role (getD (t .roles) o 0) k1 in
           let l : q < executionOf x .processors = remote-below (executionOf x .processors) q (owner .kind) (subst (λ (s : Role). List·Memᴰ s (roles (executionOf x .processors) (owner .kind))) r role-in) in
-          let n : numberOf owner (RV q) ≡ o = sym (numbered ∙ ap (numberOf owner) r) in
+          let n : numberOf owner (RV q) ≡ o = sym (number-is ∙ ap (numberOf owner) r) in
           any-member asked (owner-store mark)
           (and-both k4
           (and-both (subst (λ (b : ℕ). member (remoteOf (executionOf x) owner) b ≡ true) n (in-remotes (executionOf x) owner q l))
@@ -176,11 +176,11 @@ module _ {x : Execution} {t : Operations} {marks : List (List ℕ)} (h : Compile
           let (k4, k5) = and-parts (member (remoteOf (executionOf x) w) o) _ k3 in
           let (q, l, n) = of-remotes (executionOf x) w o k4 in
           let (iw, sw) = of-keep (λ i. isStore (i .kind)) (executionOf x .instructions) mw in
-          let same : w ≡ owner = one-owner (executionOf x) accepted iw owner-in (operation-role (executionOf x) _ (RV-in (executionOf x) mw q l)) role-in (n ∙ numbered) in
+          let same : w ≡ owner = one-owner (executionOf x) accepted iw owner-in (operation-role (executionOf x) _ (RV-in (executionOf x) mw q l)) role-in (n ∙ number-is) in
           let mark : hasMark (markAt marks (getD (t .owners) o 0) (getD (t .owners) o 0)) 512 ≡ true =
           atomic ∙ subst (λ (i : Instruction). (isStore (i .kind) && (isRelease (i .kind) && inWB (executionOf x) i)) ≡ true) same (and-both sw k2) in
           and-both
-          (past-first owner (getD (t .roles) o 0) q (sym numbered ∙ sym n ∙ ap (λ (i : Instruction). numberOf i (RV q)) same))
+          (past-first owner (getD (t .roles) o 0) q (sym number-is ∙ sym n ∙ ap (λ (i : Instruction). numberOf i (RV q)) same))
           (and-both mark
           (ap (λ (s : List ℕ). member s a) same-remotes ∙ subst (λ (i : Instruction). member (remoteOf (executionOf x) i) a ≡ true) same k5))
 

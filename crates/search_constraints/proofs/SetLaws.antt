@@ -15,7 +15,7 @@ use Rattle.base.proofs.Tests.{any-below-and}
 use Rattle.search_sets.specs.Set.{holds}
 use Rattle.search_sets.proofs.Members.{holds-none}
 use Rattle.relation_marks.specs.Marks.{hasMark}
-use Rattle.search_admit.specs.Rows.{rivalBy}
+use Rattle.search_admit.specs.Rows.{awaitedBy}
 use Rattle.search_constraints.specs.Rows.{remotesFrom}
 
 -- the RVs of a store to the first processors
@@ -53,22 +53,22 @@ adds-more {n} {i} {lo} {hi} {p} inv l lo' hi' f = record {
 pub added : {n i lo hi : ℕ} {p : ℕ → ℕ → Bool} → Added n p i lo hi → n ≤ i → (a : ℕ) → a < 128 → holds lo hi a ≡ anyBelow n (λ v. p v a)
 added {n} {i} {lo} {hi} {p} inv l a s = inv .adds a s ∙ ap (λ (k : ℕ). anyBelow k (λ v. p v a)) (let z : i ≡ n = omega (arith, inv .few) in z)
 
--- the ways out of adding a rival
+-- the ways out of adding an operation that may be waited for
 module _ (lo hi marks role first processor a : ℕ) where
-  pub rival-R : {r m : Bool} → role ≡ 0 → m ≡ hasMark marks 256 → r ≡ (holds lo hi a || (m && eqb a (1 + first + processor))) → r ≡ (holds lo hi a || rivalBy marks role first processor a)
-  unfolding rivalBy
-  rival-R h m e =
+  pub awaited-R : {r m : Bool} → role ≡ 0 → m ≡ hasMark marks 256 → r ≡ (holds lo hi a || (m && eqb a (1 + first + processor))) → r ≡ (holds lo hi a || awaitedBy marks role first processor a)
+  unfolding awaitedBy
+  awaited-R h m e =
       e ∙ ap (λ (b : Bool). holds lo hi a || (b && eqb a (1 + first + processor))) m
       ∙ ap (λ (b : Bool). holds lo hi a || cond b (hasMark marks 256 && eqb a (1 + first + processor)) (leb 3 role && (hasMark marks 128 && eqb a (1 + first + (role - 3))))) (sym (eq-eqb role 0 h))
 
-  pub rival-none : (role ≡ 0 → ⊥) → role < 3 → holds lo hi a ≡ (holds lo hi a || rivalBy marks role first processor a)
-  unfolding rivalBy
-  rival-none h l = sym (ap₂ (λ (b d : Bool). holds lo hi a || cond b (hasMark marks 256 && eqb a (1 + first + processor)) (d && (hasMark marks 128 && eqb a (1 + first + (role - 3))))) (ne-eqb role 0 h) (lt-leb 3 role l) ∙ or-false (holds lo hi a))
+  pub awaited-none : (role ≡ 0 → ⊥) → role < 3 → holds lo hi a ≡ (holds lo hi a || awaitedBy marks role first processor a)
+  unfolding awaitedBy
+  awaited-none h l = sym (ap₂ (λ (b d : Bool). holds lo hi a || cond b (hasMark marks 256 && eqb a (1 + first + processor)) (d && (hasMark marks 128 && eqb a (1 + first + (role - 3))))) (ne-eqb role 0 h) (lt-leb 3 role l) ∙ or-false (holds lo hi a))
 
-  pub rival-RV : {r m : Bool} {q : ℕ} → (role ≡ 0 → ⊥) → 3 ≤ role → q ≡ role - 3 → m ≡ hasMark marks 128 → r ≡ (holds lo hi a || (m && eqb a (1 + first + q)))
-      → r ≡ (holds lo hi a || rivalBy marks role first processor a)
-  unfolding rivalBy
-  rival-RV {r} {m} {q} h l k e f =
+  pub awaited-RV : {r m : Bool} {q : ℕ} → (role ≡ 0 → ⊥) → 3 ≤ role → q ≡ role - 3 → m ≡ hasMark marks 128 → r ≡ (holds lo hi a || (m && eqb a (1 + first + q)))
+      → r ≡ (holds lo hi a || awaitedBy marks role first processor a)
+  unfolding awaitedBy
+  awaited-RV {r} {m} {q} h l k e f =
       f ∙ ap₂ (λ (b : Bool) (j : ℕ). holds lo hi a || (b && eqb a (1 + first + j))) e k
       ∙ ap₂ (λ (b d : Bool). holds lo hi a || cond b (hasMark marks 256 && eqb a (1 + first + processor)) (d && (hasMark marks 128 && eqb a (1 + first + (role - 3))))) (sym (ne-eqb role 0 h)) (sym (le-leb 3 role l))
 

@@ -10,7 +10,7 @@ ghost use Rattle.record_decoded.specs.Kinds.{roleNumbered};
 ghost use Rattle.relation_marks.specs.Marks.{hasMark, atomicMark, markAt};
 ghost use Rattle.search_sets.specs.Set.{holds};
 ghost use Rattle.base.specs.Below.{anyBelow};
-ghost use Rattle.search_admit.specs.Rows.{rivalBy};
+ghost use Rattle.search_admit.specs.Rows.{awaitedBy};
 ghost use Rattle.relation_links.specs.Linked.{linkedBy};
 ghost use Rattle.search_constraints.specs.Rows.{remotesFrom, partnerOf, remoteLinked, linkedFrom, linkedOf, besideBy};
 use record_decoded::kind::ROLE_R;
@@ -77,7 +77,7 @@ fn with_remotes(
 
 // Whether no operation is linked to one with a role, by the marks of their instructions. The marks that links ask for are below CONFLICT, and those that
 // links to an RV ask for below OVERLAP.
-fn is_apart(marks: u16, role: u8) -> bool
+fn is_unlinked(marks: u16, role: u8) -> bool
     ensures { λ r. ⌜ (r ≡ true → (p : ℕ) (a : Role) → linkedBy marks p a (roleNumbered role) ≡ false) ⌝ }
 {
     if role < ROLE_RV {
@@ -100,7 +100,7 @@ fn with_linked(
     requires { ⌜ (first < 65536) × (processors ≤ 8) ⌝ }
     ensures { λ r. ⌜ ((a : ℕ) → a < 128 → holds (r .lo) (r .hi) a ≡ (holds (set .lo) (set .hi) a || linkedFrom marks (kindOf kind) processor first processors role a)) ⌝ }
 {
-    if is_apart(marks, role) {
+    if is_unlinked(marks, role) {
         return set;
     }
     let its = kind_of(kind);
@@ -164,9 +164,9 @@ pub fn partners_at(marks: u16, role: u8, first: usize, processors: usize) -> Set
 }
 
 // A set, with the operation for which one with a role may have to wait because of an instruction, by the marks of the two.
-fn with_rival(set: Set, marks: u16, role: u8, first: usize, processor: usize) -> Set
+fn with_awaited(set: Set, marks: u16, role: u8, first: usize, processor: usize) -> Set
     requires { ⌜ (first < 65536) × (processor < 256) ⌝ }
-    ensures { λ r. ⌜ ((a : ℕ) → a < 128 → holds (r .lo) (r .hi) a ≡ (holds (set .lo) (set .hi) a || rivalBy marks role first processor a)) ⌝ }
+    ensures { λ r. ⌜ ((a : ℕ) → a < 128 → holds (r .lo) (r .hi) a ≡ (holds (set .lo) (set .hi) a || awaitedBy marks role first processor a)) ⌝ }
 {
     if role == ROLE_R {
         let own = 1 + first + processor;
@@ -180,7 +180,7 @@ fn with_rival(set: Set, marks: u16, role: u8, first: usize, processor: usize) ->
 }
 
 // The operations for which one of instruction w with a role may have to wait by rules 9, 10 and 14.
-pub fn rivals_at<'a>(
+pub fn awaited_at<'a>(
     n: usize,
     firsts: &'a [u16; 40],
     processors: &'a [u8; 40],
@@ -189,13 +189,13 @@ pub fn rivals_at<'a>(
     role: u8,
 ) -> Set
     requires { ⌜ (n ≤ 40) × (w < 40) ⌝ }
-    ensures { λ r. ⌜ ((a : ℕ) → a < 128 → holds (r .lo) (r .hi) a ≡ anyBelow n (λ (v : ℕ). rivalBy (markAt (now (marks .entry)) v w) role (getD (now (firsts .entry)) v 0) (getD (now (processors .entry)) v 0) a)) ⌝ }
+    ensures { λ r. ⌜ ((a : ℕ) → a < 128 → holds (r .lo) (r .hi) a ≡ anyBelow n (λ (v : ℕ). awaitedBy (markAt (now (marks .entry)) v w) role (getD (now (firsts .entry)) v 0) (getD (now (processors .entry)) v 0) a)) ⌝ }
 {
     let mut set = Set { lo: 0, hi: 0 };
     for v in 0..n {
         let first = wide16(firsts[v]);
         let processor = wide(processors[v]);
-        set = with_rival(set, marks[v][w], role, first, processor);
+        set = with_awaited(set, marks[v][w], role, first, processor);
     }
     set
 }

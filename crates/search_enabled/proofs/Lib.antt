@@ -1,3 +1,3 @@
 -- The laws of this crate, open to the crates above it.
-pub mod MoveLaws
-pub mod Unmoved
+pub mod AffectLaws
+pub mod Unaffected

@@ -8,7 +8,7 @@ ghost use Rattle.base.specs.Below.{anyBelow};
 ghost use Rattle.search_sets.specs.Set.{holds, setAt};
 ghost use Rattle.search_admit.specs.Rows.{localOf};
 ghost use Rattle.search_admit.specs.Fits.{enabled, dueAfter};
-ghost use Rattle.search_enabled.specs.Moves.{writesTo, moves, Moving, enabledAfter};
+ghost use Rattle.search_enabled.specs.Affects.{writesWordOf, affects, Affecting, enabledAfter};
 use search_admit::BYPASSES;
 use search_admit::LOCAL;
 use search_admit::OWN_WORD;
@@ -50,7 +50,7 @@ fn with_locals(set: Set, rows: &[u64; 2304], stores: Set) -> Set
 // Whether operation a writes a word that the R y reads.
 fn writes_to(rows: &[u64; 2304], a: usize, y: usize) -> bool
     requires { ⌜ (a < 128) × (y < 128) ⌝ }
-    ensures { λ r. ⌜ r ≡ writesTo (now (rows .entry)) a y ⌝ }
+    ensures { λ r. ⌜ r ≡ writesWordOf (now (rows .entry)) a y ⌝ }
 {
     let written = field_of(rows, a, WRITTEN_WORD) % 128;
     if written == field_of(rows, y, VISIBLE_WORD) % 128 {
@@ -62,7 +62,7 @@ fn writes_to(rows: &[u64; 2304], a: usize, y: usize) -> bool
 // A set, with the operations of n that write a word that the R y reads.
 fn with_writers(set: Set, n: usize, rows: &[u64; 2304], y: usize) -> Set
     requires { ⌜ (n ≤ 128) × (y < 128) ⌝ }
-    ensures { λ r. ⌜ ((a : ℕ) → a < n → holds (r .lo) (r .hi) a ≡ (holds (set .lo) (set .hi) a || writesTo (now (rows .entry)) a y)) ⌝ }
+    ensures { λ r. ⌜ ((a : ℕ) → a < n → holds (r .lo) (r .hi) a ≡ (holds (set .lo) (set .hi) a || writesWordOf (now (rows .entry)) a y)) ⌝ }
 {
     let mut all = set;
     for a in 0..n {
@@ -73,9 +73,9 @@ fn with_writers(set: Set, n: usize, rows: &[u64; 2304], y: usize) -> Set
 }
 
 // The operations, of n, that may change whether y is enabled.
-fn movers_of(n: usize, rows: &[u64; 2304], y: usize) -> Set
+fn all_affecting(n: usize, rows: &[u64; 2304], y: usize) -> Set
     requires { ⌜ (n ≤ 128) × (y < 128) ⌝ }
-    ensures { λ r. ⌜ ((a : ℕ) → a < n → holds (r .lo) (r .hi) a ≡ moves (now (rows .entry)) a y) ⌝ }
+    ensures { λ r. ⌜ ((a : ℕ) → a < n → holds (r .lo) (r .hi) a ≡ affects (now (rows .entry)) a y) ⌝ }
 {
     let preds = set_of(rows, y, PREDS);
     if field_of(rows, y, READ_BITS) == 0 {
@@ -86,31 +86,31 @@ fn movers_of(n: usize, rows: &[u64; 2304], y: usize) -> Set
     union(preds, with_writers(read, n, rows, y))
 }
 
-// Puts y into the sets of those that move it.
-fn put_moved(moved: &mut [u64], movers: Set, y: usize)
-    requires { ⌜ (y < 128) × (length (now moved) ≡ 256) ⌝ }
-    ensures { λ _. ⌜ ((a k : ℕ) → a < 128 → setAt (now (moved .exit)) a k ≡ (setAt (now (moved .entry)) a k || (holds (movers .lo) (movers .hi) a && eqb k y))) × (length (now (moved .exit)) ≡ 256) ⌝ }
+// Puts y into the sets of those that affect it.
+fn put_affected(affected: &mut [u64], affecting: Set, y: usize)
+    requires { ⌜ (y < 128) × (length (now affected) ≡ 256) ⌝ }
+    ensures { λ _. ⌜ ((a k : ℕ) → a < 128 → setAt (now (affected .exit)) a k ≡ (setAt (now (affected .entry)) a k || (holds (affecting .lo) (affecting .hi) a && eqb k y))) × (length (now (affected .exit)) ≡ 256) ⌝ }
 {
-    let mut a = first(movers, 0);
+    let mut a = first(affecting, 0);
     while a < 128 {
-        let set = at(moved, a);
-        put(moved, a, insert(set, y));
+        let set = at(affected, a);
+        put(affected, a, insert(set, y));
         let from = a + 1;
-        a = first(movers, from);
+        a = first(affecting, from);
     }
 }
 
-// For each operation those that it moves.
-pub fn moved_by(n: usize, rows: &[u64; 2304]) -> [u64; 256]
+// For each operation those that it affects.
+pub fn affected_by(n: usize, rows: &[u64; 2304]) -> [u64; 256]
     requires { ⌜ n ≤ 128 ⌝ }
-    ensures { λ r. ⌜ Moving n (now (rows .entry)) r ⌝ }
+    ensures { λ r. ⌜ Affecting n (now (rows .entry)) r ⌝ }
 {
-    let mut moved = [0u64; 256];
+    let mut affected = [0u64; 256];
     for y in 0..n {
-        let movers = movers_of(n, rows, y);
-        put_moved(&mut moved, movers, y);
+        let affecting = all_affecting(n, rows, y);
+        put_affected(&mut affected, affecting, y);
     }
-    moved
+    affected
 }
 
 // The operations of n that are enabled before any stands.
@@ -129,16 +129,16 @@ pub fn first_enabled(n: usize, rows: &[u64; 2304], words: &[u64; 128]) -> Set
 // Those that are enabled behind x, the last that stands, by those that were before.
 pub fn enabled_after(
     rows: &[u64; 2304],
-    moved: &[u64; 256],
+    affected: &[u64; 256],
     words: &[u64; 128],
     before: Set,
     stand: Set,
     x: usize,
 ) -> Set
     requires { ⌜ x < 128 ⌝ }
-    ensures { λ r. ⌜ ((y : ℕ) → y < 128 → holds (r .lo) (r .hi) y ≡ enabledAfter (now (rows .entry)) (now (moved .entry)) (now (words .entry)) (before .lo) (before .hi) (stand .lo) (stand .hi) x y) ⌝ }
+    ensures { λ r. ⌜ ((y : ℕ) → y < 128 → holds (r .lo) (r .hi) y ≡ enabledAfter (now (rows .entry)) (now (affected .entry)) (now (words .entry)) (before .lo) (before .hi) (stand .lo) (stand .hi) x y) ⌝ }
 {
-    let touched = at(moved, x);
+    let touched = at(affected, x);
     let kept = minus(minus(before, touched), stand);
     if subset(touched, stand) {
         return kept;

@@ -18,12 +18,12 @@ use Rattle.model.specs.Execution as model
 use Rattle.model.specs.Execution.{isFence, Instruction, Line, noLine, initialByte}
 use Rattle.model.specs.Questions.{question7, question8}
 use Rattle.model.specs.Rules.{accesses, byteWritten}
-use Rattle.model.proofs.Accepted.{Accepted, Sound}
+use Rattle.model.specs.Accepted.{Accepted, Sound}
 use Rattle.record_decoded.specs.declared.types.Execution.{Execution}
 use Rattle.record_decoded.specs.Decoded.{eight, lineAt, linesOf, instructionAt, executionOf}
 use Rattle.record_decoded.proofs.Arrays.{lines-length}
 use Rattle.search_admit.specs.Rows.{covers, dataBit, Bytes}
-use Rattle.search_reduction.proofs.Apart.{each-in}
+use Rattle.search_reduction.proofs.Ownership.{each-in}
 
 -- bytes with the same eight bits are equal
 pub same-byte : (a b : ℕ) → a < 256 → b < 256 → ((k : ℕ) → k < 8 → bit a k ≡ bit b k) → a ≡ b

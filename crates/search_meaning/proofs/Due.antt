@@ -14,7 +14,7 @@ use Rattle.base.proofs.Tests.{all-fails, all-below}
 use Rattle.model.specs.Execution as model
 use Rattle.model.specs.Execution.{Instruction, isRelease, RV, numberOf, stores, operations, everyProcessor}
 use Rattle.model.specs.Rules.{before, inWB, Claim, never, remoteOf, rule12, rules, broken, consistent}
-use Rattle.model.proofs.Accepted.{Accepted}
+use Rattle.model.specs.Accepted.{Accepted}
 use Rattle.model.proofs.Before.{before-stays}
 use Rattle.record_decoded.specs.Decoded.{executionOf}
 use Rattle.search_sets.specs.Set.{holds}
@@ -22,9 +22,9 @@ use Rattle.search_reduction.specs.Admits.{missing, interrupts}
 use Rattle.search_reduction.proofs.Pairs.{any-fails}
 use Rattle.search_reduction.proofs.Settled.{before-absent}
 use Rattle.search_reduction.proofs.Links.{kept}
-use Rattle.search_reduction.proofs.Apart.{RV-role, in-processors, is-store, RV-in, one-owner}
+use Rattle.search_reduction.proofs.Ownership.{RV-role, in-processors, is-store, RV-in, one-owner}
 use Rattle.search_admit.specs.Rows.{partner, partnerBy}
-use Rattle.search_meaning.proofs.Tables.{Tables, Holds}
+use Rattle.search_meaning.proofs.Tables.{Tables, RowsMean}
 use Rattle.search_meaning.proofs.Owners.{number-low}
 use Rattle.search_admit.specs.Fits.{lastEntry, dueOf, Standing}
 use Rattle.search_admit.proofs.FitLaws.{last-more}
@@ -40,8 +40,8 @@ last-stands : (ys : List ℕ) (o : ℕ) → member (ys ++ (o ∷ [])) o ≡ true
 last-stands ys o = member-append ys o o ∙ or-right (member ys o) (eqb o o) (eq-eqb o o refl)
 
 -- the last of different numbers
-last-apart : (n : ℕ) (ys : List ℕ) (o : ℕ) → distinct n [] (ys ++ (o ∷ [])) ≡ true → (o < n) × (member ys o ≡ false)
-last-apart n ys o h =
+last-new : (n : ℕ) (ys : List ℕ) (o : ℕ) → distinct n [] (ys ++ (o ∷ [])) ≡ true → (o < n) × (member ys o ≡ false)
+last-new n ys o h =
     let (h1, h2) = and-parts (distinct n [] ys) (ltb o n && not (member ys o)) (rw distinct-append at h) in
     let (h3, h4) = and-parts (ltb o n) (not (member ys o)) h2 in
     (ltb-true o n h3, not-true (member ys o) h4)
@@ -88,14 +88,14 @@ module _ (e : model.Execution) where
   last-in : (ys : List ℕ) (o : ℕ) → consistent e (ys ++ (o ∷ [])) ≡ true → o < operations e → member ys o ≡ false
       → {w : Instruction} {a c : ℕ} → List·Memᴰ w (stores e) → opens e w ≡ true → List·Memᴰ a (remoteOf e w) → List·Memᴰ c (remoteOf e w)
       → member (ys ++ (o ∷ [])) a ≡ true → member (ys ++ (o ∷ [])) c ≡ false → List·Memᴰ o (remoteOf e w)
-  last-in ys o consists low apart {w} {a} {c} mw release ma mc stands misses =
+  last-in ys o consists low different {w} {a} {c} mw release ma mc stands misses =
       split (member (remoteOf e w) o)
       (λ t. member-in (remoteOf e w) o t)
       (λ f.
       let other : eqb o a ≡ false = ne-eqb o a (λ q. clash (in-member ma) (rw q at f)) in
       let sooner : member ys a ≡ true = sym (or-false (member ys a)) ∙ rw (member-append ys o a, other) at stands in
       clash
-      (and-both (before-stays ys o a o (before-absent ys a o apart ∙ sooner)) (before-absent (ys ++ (o ∷ [])) o c misses ∙ last-stands ys o))
+      (and-both (before-stays ys o a o (before-absent ys a o different ∙ sooner)) (before-absent (ys ++ (o ∷ [])) o c misses ∙ last-stands ys o))
       (rule12-kept (ys ++ (o ∷ [])) consists mw release ma mc low f))
 
   -- x interrupts an st.rel to WB: it is no RV, one stands, one is missing
@@ -119,7 +119,7 @@ module _ (e : model.Execution) where
     interrupts-by release none ma here mc misses =
         and-both (and-both (and-both release (ap not none)) (any-member (member xs) ma here)) (any-member (missing e x xs) mc (ap not misses))
 
-module _ {t : Tables} (h : Holds t) (accepted : Accepted (executionOf (t .execution))) where
+module _ {t : Tables} (h : RowsMean t) (accepted : Accepted (executionOf (t .execution))) where
   abbrev e : model.Execution
   e = executionOf (t .execution)
 
@@ -158,7 +158,7 @@ module _ {t : Tables} (h : Holds t) (accepted : Accepted (executionOf (t .execut
       clash (in-member (subst (λ (i : Instruction). List·Memᴰ x (remoteOf e i)) (one-store e accepted mv mw ov mo) xv)) none)
 
   -- behind ys and a last entry o
-  module _ (x : ℕ) (low : x < n) (ys : List ℕ) (o lo hi : ℕ) (consists : consistent e (ys ++ (o ∷ [])) ≡ true) (low-o : o < n) (apart : member ys o ≡ false)
+  module _ (x : ℕ) (low : x < n) (ys : List ℕ) (o lo hi : ℕ) (consists : consistent e (ys ++ (o ∷ [])) ≡ true) (low-o : o < n) (different : member ys o ≡ false)
       (standing : Standing (ys ++ (o ∷ [])) lo hi) where
     abbrev xs : List ℕ
     xs = ys ++ (o ∷ [])
@@ -179,7 +179,7 @@ module _ {t : Tables} (h : Holds t) (accepted : Accepted (executionOf (t .execut
     refuses s =
         let (w, mw, k) = any-witness (interrupts e x xs) (stores e) s in
         let (release, none, a, ma, here, c, mc, misses) = of-interrupts e x xs w k in
-        let mo = last-in e ys o consists low-o apart mw release ma mc here misses in
+        let mo = last-in e ys o consists low-o different mw release ma mc here misses in
         let small : c < 128 = omega (arith, RV-low mw mc, accepted .operations-few) in
         let lacks : stands c ≡ false = rw (of-partner mw release mo mc) (standing c small ∙ misses) in
         rw (all-fails stands 128 c small lacks) (no-partner x low mw mo none)
@@ -212,15 +212,15 @@ module _ {t : Tables} (h : Holds t) (accepted : Accepted (executionOf (t .execut
       clash here refl)))
 
 -- the test by the partners of the last entry is rule 12
-pub due-is : {t : Tables} → Holds t → Accepted (executionOf (t .execution)) → (x : ℕ) → x < operations (executionOf (t .execution))
+pub due-is : {t : Tables} → RowsMean t → Accepted (executionOf (t .execution)) → (x : ℕ) → x < operations (executionOf (t .execution))
     → (xs : List ℕ) (lo hi : ℕ) → consistent (executionOf (t .execution)) xs ≡ true → distinct (operations (executionOf (t .execution))) [] xs ≡ true
     → Standing xs lo hi → member xs x ≡ false
     → dueOf (t .rows) xs lo hi x ≡ not (any (interrupts (executionOf (t .execution)) x xs) (stores (executionOf (t .execution))))
-due-is {t} h accepted x low xs lo hi consists apart standing new =
+due-is {t} h accepted x low xs lo hi consists different standing new =
     by-last Claimed
     (λ c d s. due-first h accepted x lo hi)
-    (λ ys o c d s. let (low-o, first) = last-apart (operations e′) ys o d in due-more h accepted x low ys o lo hi c low-o first s)
-    xs consists apart standing
+    (λ ys o c d s. let (low-o, first) = last-new (operations e′) ys o d in due-more h accepted x low ys o lo hi c low-o first s)
+    xs consists different standing
   where
     e′ : model.Execution
     e′ = executionOf (t .execution)

@@ -6,7 +6,7 @@ pub mod Due
 pub mod Refusals
 pub mod Demands
 pub mod OperationRows
-pub mod Rivals
+pub mod Awaited
 pub mod Bytes
 pub mod Words
 pub mod Sources

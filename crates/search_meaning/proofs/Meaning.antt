@@ -8,22 +8,22 @@ use Rattle.base.specs.Lists.{any, member}
 use Rattle.base.proofs.Bools.{split}
 use Rattle.model.specs.Execution.{stores, operations}
 use Rattle.model.specs.Rules.{linked, linksOf, consistent}
-use Rattle.model.proofs.Accepted.{Accepted}
+use Rattle.model.specs.Accepted.{Accepted}
 use Rattle.record_decoded.specs.Decoded.{executionOf}
 use Rattle.relation_places.specs.Places.{Placed}
 use Rattle.search_reduction.specs.Admits.{ownDemands, remoteDemands, bypassDemands, sights, unready, interrupts, lost, unseen, admits}
 use Rattle.search_reduction.proofs.Reduction.{admits-more}
-use Rattle.search_meaning.proofs.Tables.{Tables, Holds}
+use Rattle.search_meaning.proofs.Tables.{Tables, RowsMean}
 use Rattle.search_admit.specs.Rows.{wordsAfter}
 use Rattle.search_admit.specs.Fits.{dueOf, fitsBy, Standing, Tested}
 use Rattle.search_sets.specs.Set.{holds}
 use Rattle.search_meaning.proofs.Ready.{ready-is}
 use Rattle.search_meaning.proofs.Demands.{refused-is}
-use Rattle.search_meaning.proofs.Rivals.{rivals-refuse}
-use Rattle.search_meaning.proofs.Sees.{sees-is}
+use Rattle.search_meaning.proofs.Awaited.{awaited-refuse}
+use Rattle.search_meaning.proofs.Sees.{reads-is}
 use Rattle.search_meaning.proofs.Due.{due-is}
 
-module _ {t : Tables} (h : Holds t) (accepted : Accepted (executionOf (t .execution))) where
+module _ {t : Tables} (h : RowsMean t) (accepted : Accepted (executionOf (t .execution))) where
   -- an operation that does not stand
   not-standing : (xs places : List ℕ) (lo hi x : ℕ) → consistent (executionOf (t .execution)) xs ≡ true → Placed (operations (executionOf (t .execution))) xs places
       → Standing xs lo hi → x < operations (executionOf (t .execution)) → member xs x ≡ false
@@ -31,11 +31,11 @@ module _ {t : Tables} (h : Holds t) (accepted : Accepted (executionOf (t .execut
   unfolding fitsBy admits
   not-standing xs places lo hi x consists p standing low new =
       rw (
-        due-is h accepted x low xs lo hi consists (p .apart) standing new,
+        due-is h accepted x low xs lo hi consists (p .different) standing new,
         standing x (omega (arith, accepted .operations-few)) ∙ new,
         ready-is h (accepted .operations-few) xs lo hi x low standing,
-        rivals-refuse h accepted x low p new lo hi standing ∙ refused-is h accepted x low p new,
-        sees-is h accepted x low xs (p .apart) lo hi standing,
+        awaited-refuse h accepted x low p new lo hi standing ∙ refused-is h accepted x low p new,
+        reads-is h accepted x low xs (p .different) lo hi standing,
       )
       (sorted (any (unready (executionOf (t .execution)) x xs) (linksOf (executionOf (t .execution)) (linked (executionOf (t .execution)))))
       (any (interrupts (executionOf (t .execution)) x xs) (stores (executionOf (t .execution))))

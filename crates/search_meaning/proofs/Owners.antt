@@ -9,14 +9,14 @@ use Rattle.base.specs.Lists.{below}
 use Rattle.base.proofs.Lists.{of-for, in-below, of-below}
 use Rattle.model.specs.Execution as model
 use Rattle.model.specs.Execution.{Kind, ld, ld-acq, st, st-rel, mf, Instruction, Role, R, LV, RV, roles, numberOf, operations, operationsOf, allOperations}
-use Rattle.model.proofs.Accepted.{Accepted}
+use Rattle.model.specs.Accepted.{Accepted}
 use Rattle.record_decoded.specs.Kinds.{roleNumbered}
 use Rattle.record_decoded.specs.Decoded.{instructionAt, instructionsOf, executionOf}
 use Rattle.relation_links.specs.Operations.{operationAt, tableOf}
 use Rattle.relation_links.proofs.LinkLaws.{operation-role, operation-of}
 use Rattle.relation_links.proofs.CompiledLaws.{operation-there}
-use Rattle.search_reduction.proofs.Apart.{one-owner}
-use Rattle.search_meaning.proofs.Tables.{Tables, Holds}
+use Rattle.search_reduction.proofs.Ownership.{one-owner}
+use Rattle.search_meaning.proofs.Tables.{Tables, RowsMean}
 
 -- a role by its number
 pub number-R : (k : ℕ) → roleNumbered k ≡ R → k ≡ 0
@@ -59,7 +59,7 @@ module _ (p : ℕ) (i : Instruction) where
   one-role st-rel mr ms e = of-store (List·Memᴰ·cases-cons mr) (List·Memᴰ·cases-cons ms) e
   one-role mf mr ms e = List·Memᴰ·eq-of-singleton mr ∙ sym (List·Memᴰ·eq-of-singleton ms)
 
-module _ {t : Tables} (h : Holds t) (accepted : Accepted (executionOf (t .execution))) (x : ℕ) (low : x < operations (executionOf (t .execution))) where
+module _ {t : Tables} (h : RowsMean t) (accepted : Accepted (executionOf (t .execution))) (x : ℕ) (low : x < operations (executionOf (t .execution))) where
   abbrev e : model.Execution
   e = executionOf (t .execution)
 
@@ -113,7 +113,7 @@ unfolding executionOf instructionsOf
 numbered-in t k l = Memᴰ·map (instructionAt (t .execution .instructions)) (in-below (t .execution .instructions .count) k l)
 
 -- the number of an operation is below their count
-pub number-low : {t : Tables} → Holds t → {a : model.Operation} → List·Memᴰ a (allOperations (executionOf (t .execution))) → a .number < operations (executionOf (t .execution))
+pub number-low : {t : Tables} → RowsMean t → {a : model.Operation} → List·Memᴰ a (allOperations (executionOf (t .execution))) → a .number < operations (executionOf (t .execution))
 unfolding tableOf operationAt
 number-low {t} h {a} m =
     let (k, mk, q) = Memᴰ·of-map _ (below (t .operations .count)) (subst (List·Memᴰ a) (sym (h .compiled .tabled .holds)) m) in

@@ -18,14 +18,14 @@ use Rattle.base.proofs.Tests.{some-at, any-passes, all-at, all-below}
 use Rattle.model.specs.Execution as model
 use Rattle.model.specs.Execution.{Kind, ld, ld-acq, st, st-rel, mf, Instruction, Role, R, LV, RV, isLoad, isStore, roles, numberOf, stores, loads, operations, initialByte}
 use Rattle.model.specs.Rules.{accesses, addresses, byteWritten, byteSeen, Writer, Sight, sightOf}
-use Rattle.model.proofs.Accepted.{Accepted, Sound}
+use Rattle.model.specs.Accepted.{Accepted, Sound}
 use Rattle.record_decoded.specs.Decoded.{instructionAt, executionOf}
 use Rattle.search_reduction.specs.Admits.{lastByte, missing, byteNow, unseen, sights}
-use Rattle.search_reduction.proofs.Apart.{each-in, is-store, is-load, R-role, store-processor}
+use Rattle.search_reduction.proofs.Ownership.{each-in, is-store, is-load, R-role, store-processor}
 use Rattle.search_sets.specs.Set.{holds}
 use Rattle.search_admit.specs.Rows.{bypasses, bypassOf, writtenBits, localOf, readBits, readData, visibleWord, ownWord, visibleAt, ownAt, covers, dataBit, firstWords, wordsAfter}
-use Rattle.search_admit.specs.Fits.{same, pending, localBit, sees, Standing}
-use Rattle.search_meaning.proofs.Tables.{Tables, Holds}
+use Rattle.search_admit.specs.Fits.{bothOrNeither, pending, localBit, readsRecorded, Standing}
+use Rattle.search_meaning.proofs.Tables.{Tables, RowsMean}
 use Rattle.search_meaning.proofs.Owners.{number-R, role-R, role-in, owner-in, owner-is, number-is, by-number, numbered-in}
 use Rattle.search_meaning.proofs.OperationRows.{RV-writes, IsRV, is-RV}
 use Rattle.search_meaning.proofs.Bytes.{Within, same-byte, accesses-within, covers-is, data-is, byte-small, initial-at}
@@ -33,14 +33,14 @@ use Rattle.search_meaning.proofs.Words.{last-below, words-are}
 use Rattle.search_meaning.proofs.Sources.{visible-does, own-does}
 
 -- bits that are the same
-same-true : (a b : Bool) → same a b ≡ true → a ≡ b
-unfolding same
+same-true : (a b : Bool) → bothOrNeither a b ≡ true → a ≡ b
+unfolding bothOrNeither
 same-true true b h = sym h
 same-true false true h = h
 same-true false false h = refl
 
-same-refl : (a b : Bool) → a ≡ b → same a b ≡ true
-unfolding same
+same-refl : (a b : Bool) → a ≡ b → bothOrNeither a b ≡ true
+unfolding bothOrNeither
 same-refl true b h = sym h
 same-refl false b h = ap not (sym h)
 
@@ -68,8 +68,8 @@ in-reach i b h =
     let (l, r) = and-parts (leb (i .address) b) (ltb b (i .address + i .size)) h in
     in-count (i .address) (i .size) b (leb-true (i .address) b l) (ltb-true b (i .address + i .size) r)
 
-module _ {t : Tables} (h : Holds t) (accepted : Accepted (executionOf (t .execution))) (x : ℕ) (low : x < operations (executionOf (t .execution)))
-    (xs : List ℕ) (apart : distinct (operations (executionOf (t .execution))) [] xs ≡ true) (lo hi : ℕ) (standing : Standing xs lo hi) where
+module _ {t : Tables} (h : RowsMean t) (accepted : Accepted (executionOf (t .execution))) (x : ℕ) (low : x < operations (executionOf (t .execution)))
+    (xs : List ℕ) (different : distinct (operations (executionOf (t .execution))) [] xs ≡ true) (lo hi : ℕ) (standing : Standing xs lo hi) where
   abbrev e : model.Execution
   e = executionOf (t .execution)
 
@@ -139,7 +139,7 @@ module _ {t : Tables} (h : Holds t) (accepted : Accepted (executionOf (t .execut
     visible-bit =
         ap (λ (c : ℕ). bit (getD words c 0) i) visible-word
         ∙ words-are (t .rows) _ (visibleAt (load .processor) (b / 8)) i k (omega (arith, line-low, processor-low)) xs
-        (λ o m. visible-does h accepted (load .processor) b k i few (its .there) at bits o (distinct-in (operations e) [] xs apart m))
+        (λ o m. visible-does h accepted (load .processor) b k i few (its .there) at bits o (distinct-in (operations e) [] xs different m))
         (firstWords (t .rows)) (initialByte e b) first-long (first-bit (visibleAt (load .processor) (b / 8)) (omega (arith, line-low, processor-low)) (omega (arith, line-low)))
         ∙ ap (λ (l : List (ℕ × ℕ)). bit (lastByte l (initialByte e b) xs) k) (sym (map-map (λ w. (w .rv, w .wrote)) _ (keep (λ w. accesses w b) (stores e))))
 
@@ -148,7 +148,7 @@ module _ {t : Tables} (h : Holds t) (accepted : Accepted (executionOf (t .execut
     own-bit =
         ap (λ (c : ℕ). bit (getD words c 0) i) own-word
         ∙ words-are (t .rows) _ (ownAt (load .processor) (b / 8)) i k (omega (arith, line-low, processor-low)) xs
-        (λ o m. own-does h accepted (load .processor) b k i few (its .there) at bits o (distinct-in (operations e) [] xs apart m))
+        (λ o m. own-does h accepted (load .processor) b k i few (its .there) at bits o (distinct-in (operations e) [] xs different m))
         (firstWords (t .rows)) (initialByte e b) first-long (first-bit (ownAt (load .processor) (b / 8)) (omega (arith, line-low, processor-low)) (omega (arith, line-low)))
         ∙ ap (λ (l : List (ℕ × ℕ)). bit (lastByte l (initialByte e b) xs) k)
         (sym (ap (map (λ w. (w .lv, w .wrote))) (keep-map (λ w. w .own) _ (keep (λ w. accesses w b) (stores e))) ∙ map-map (λ w. (w .lv, w .wrote)) _ (keep (λ w. eqb (w .processor) (load .processor)) (keep (λ w. accesses w b) (stores e)))))
@@ -319,10 +319,10 @@ module _ {t : Tables} (h : Holds t) (accepted : Accepted (executionOf (t .execut
   seenAt i = cond (localBit (t .rows) lo hi x i) (bit (getD words (ownWord (t .rows) x) 0) i) (bit (getD words (visibleWord (t .rows) x) 0) i)
 
   abbrev agrees : ℕ → Bool
-  agrees i = not (bit (readBits (t .rows) x) i) || same (seenAt i) (bit (readData (t .rows) x) i)
+  agrees i = not (bit (readBits (t .rows) x) i) || bothOrNeither (seenAt i) (bit (readData (t .rows) x) i)
 
-  agrees-read : (i : ℕ) → bit (readBits (t .rows) x) i ≡ true → agrees i ≡ same (seenAt i) (bit (readData (t .rows) x) i)
-  agrees-read i r = ap (λ (u : Bool). not u || same (seenAt i) (bit (readData (t .rows) x) i)) r
+  agrees-read : (i : ℕ) → bit (readBits (t .rows) x) i ≡ true → agrees i ≡ bothOrNeither (seenAt i) (bit (readData (t .rows) x) i)
+  agrees-read i r = ap (λ (u : Bool). not u || bothOrNeither (seenAt i) (bit (readData (t .rows) x) i)) r
 
   -- then each byte is
   byte-agrees : role ≡ 0 → allBelow 64 agrees ≡ true → (b : ℕ) → accesses load b ≡ true → byteNow e x xs (sightOf e load b) ≡ byteSeen load b
@@ -371,9 +371,9 @@ module _ {t : Tables} (h : Holds t) (accepted : Accepted (executionOf (t .execut
       ∙ same-refl (seenAt i) (bit (readData (t .rows) x) i)
       (seen-bit reads b (i % 8) i r2 at refl ∙ ap (λ (v : ℕ). bit v (i % 8)) (seen-in reads b r2 none) ∙ sym (recorded-bit reads b (i % 8) i r2 at refl))
 
-  pub sees-is : sees (t .rows) lo hi words x ≡ not (any (unseen e x xs) (sights e x))
-  unfolding sees sights
-  sees-is =
+  pub reads-is : readsRecorded (t .rows) lo hi words x ≡ not (any (unseen e x xs) (sights e x))
+  unfolding readsRecorded sights
+  reads-is =
       agree (allBelow 64 agrees) (not (any (unseen e x xs) (sights e x)))
       (λ all. ap not (is-false (any (unseen e x xs) (sights e x)) (λ u.
       let (l, ml, k) = any-witness _ (loads e) (sym (any-for (unseen e x xs) (loads e) _) ∙ u) in
@@ -384,4 +384,4 @@ module _ {t : Tables} (h : Holds t) (accepted : Accepted (executionOf (t .execut
       refutes (number-R role (sym is-R)) all b (of-reach load b (subst (λ (i : Instruction). List·Memᴰ b (addresses i)) is-it mb)) (ap (λ (i : Instruction). unseen e x xs (sightOf e i b)) (sym is-it) ∙ un))))
       (λ none. all-below agrees 64 (λ i l.
       split (bit (readBits (t .rows) x) i) (λ r. read-agrees i l r (not-true (any (unseen e x xs) (sights e x)) none))
-      (λ r. ap (λ (u : Bool). not u || same (seenAt i) (bit (readData (t .rows) x) i)) r)))
+      (λ r. ap (λ (u : Bool). not u || bothOrNeither (seenAt i) (bit (readData (t .rows) x) i)) r)))

@@ -7,22 +7,19 @@ use mathlib.Core.List.{List, List·Memᴰ, Memᴰ·of-map}
 use lib.Dec.{eqb, ltb}
 use borrow.Author.Tests.{eqb-true, eqb-false, ne-eqb, ltb-true, not-true}
 use Rattle.base.specs.Lists.{any}
-use Rattle.base.proofs.Bools.{split, and-parts}
+use Rattle.base.proofs.Bools.{split, and-parts, and-left}
 use Rattle.base.proofs.Lists.{any-same, any-witness, of-for}
 use Rattle.model.specs.Execution.{Instruction, Execution, Role, R, LV, F, RV, roles, numberOf, Operation, operationsOf, allOperations}
 use Rattle.model.specs.Rules.{hasRoleLV, hasRoleRV, isLV, isOwnRV, isOtherRV, sameInstruction, earlier, link1, link2, link3, link4, link5, link6, link7, paired, link8, link13, linksOf, linked}
-use Rattle.model.proofs.Accepted.{Rises, Accepted}
+use Rattle.model.specs.Accepted.{Rises, Accepted}
 use Rattle.search_reduction.specs.Admits.{unready}
 use Rattle.search_reduction.proofs.Newly.{settles}
-use Rattle.search_reduction.proofs.Apart.{each-in, operationOf, one-owner}
+use Rattle.search_reduction.proofs.Ownership.{each-in, operationOf, one-owner}
 use Rattle.search_reduction.proofs.Links.{any-links}
 
 either : {C : Type 0} (a b : Bool) → (a || b) ≡ true → (a ≡ true → C) → (b ≡ true → C) → C
 either true b h f g = f refl
 either false b h f g = g h
-
-left : (a b : Bool) → (a && b) ≡ true → a ≡ true
-left a b h = and-parts a b h .0
 
 -- the roles of rule 1, by number
 LV-number : (i : Instruction) (r : Role) → hasRoleLV r ≡ true → numberOf i r ≡ i .first
@@ -89,7 +86,7 @@ module _ (e : Execution) (accepted : Accepted e) where
     not-8 : link8 e a b ≡ true → ⊥
     unfolding link8 paired
     not-8 h =
-        let (p, mp, t) = any-witness (λ p. eqb (p .0) (a .instruction .number) && eqb (p .1) (b .instruction .number)) (e .pairs) (left _ _ h) in
+        let (p, mp, t) = any-witness (λ p. eqb (p .0) (a .instruction .number) && eqb (p .1) (b .instruction .number)) (e .pairs) (and-left _ _ h) in
         let (t0, t1) = and-parts (eqb (p .0) (a .instruction .number)) (eqb (p .1) (b .instruction .number)) t in
         let e0 = eqb-true (p .0) (a .instruction .number) t0 in
         let e1 = eqb-true (p .1) (b .instruction .number) t1 in
@@ -106,14 +103,14 @@ module _ (e : Execution) (accepted : Accepted e) where
         (λ h. either _ (link5 a b) h
         (λ h. either _ (link4 a b) h
         (λ h. either _ (link3 a b) h
-        (λ h. either (link1 a b) (link2 a b) h not-1 (λ h. not-earlier (left _ _ h)))
-        (λ h. not-earlier (left _ _ h)))
-        (λ h. not-earlier (left _ _ h)))
-        (λ h. not-earlier (left _ _ (left _ _ h))))
-        (λ h. not-earlier (left _ _ (left _ _ h))))
-        (λ h. not-earlier (left _ _ (left _ _ h))))
+        (λ h. either (link1 a b) (link2 a b) h not-1 (λ h. not-earlier (and-left _ _ h)))
+        (λ h. not-earlier (and-left _ _ h)))
+        (λ h. not-earlier (and-left _ _ h)))
+        (λ h. not-earlier (and-left _ _ (and-left _ _ h))))
+        (λ h. not-earlier (and-left _ _ (and-left _ _ h))))
+        (λ h. not-earlier (and-left _ _ (and-left _ _ h))))
         not-8)
-        (λ h. not-earlier (left _ _ (left _ _ h)))
+        (λ h. not-earlier (and-left _ _ (and-left _ _ h)))
 
   -- so the test of the links need not ask whether the other operation is x itself
   pub links-rule : (xs : List ℕ) (x : ℕ)

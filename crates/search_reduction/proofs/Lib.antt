@@ -2,7 +2,7 @@
 pub mod Pairs
 pub mod Settled
 pub mod Newly
-pub mod Apart
+pub mod Ownership
 pub mod Links
 pub mod Stores
 pub mod Releases

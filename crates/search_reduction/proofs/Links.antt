@@ -10,11 +10,11 @@ use Rattle.base.proofs.Bools.{split}
 use Rattle.base.proofs.Lists.{any-same, any-map, any-one, any-or}
 use Rattle.model.specs.Execution.{Execution, Instruction, LV, RV, numberOf, Operation, allOperations, stores}
 use Rattle.model.specs.Rules.{before, link1, link2, link3, link4, link5, link6, link7, link8, link13, Link, _≺_, Claim, must, RV-own, linksOf, rules, linked, broken, keeps, consistent}
-use Rattle.model.proofs.Accepted.{Accepted}
+use Rattle.model.specs.Accepted.{Accepted}
 use Rattle.search_reduction.proofs.Pairs.{any-fails, any-pairs, pair-fails}
 use Rattle.search_reduction.proofs.Settled.{before-itself}
 use Rattle.search_reduction.proofs.Newly.{settles, newlyBroken}
-use Rattle.search_reduction.proofs.Apart.{LV-in, RV-in, store-processor}
+use Rattle.search_reduction.proofs.Ownership.{LV-in, RV-in, store-processor}
 
 module _ (e : Execution) where
   module _ (p : Link → Bool) where

@@ -11,12 +11,12 @@ use Rattle.base.proofs.Lists.{any-same, any-and, any-when, any-one, any-for, an
 use Rattle.model.specs.Execution.{Execution, Instruction, LV, R, numberOf, stores, loads}
 use Rattle.model.specs.Rules.{before, overlap, addresses, accesses, inUC, Writer, Sight, never, sees, RV-own, sightOf, rule11, rule14, byteOf, latest, local, byteRead, broken}
 use Rattle.model.proofs.Before.{then}
-use Rattle.model.proofs.Accepted.{Accepted}
+use Rattle.model.specs.Accepted.{Accepted}
 use Rattle.search_reduction.specs.Admits.{lastByte, missing, lost, bypassDemands, sights, byteNow, unseen}
 use Rattle.search_reduction.proofs.Pairs.{pairs-same}
 use Rattle.search_reduction.proofs.Settled.{before-absent, before-not}
 use Rattle.search_reduction.proofs.Newly.{newlyBroken, newly-broken}
-use Rattle.search_reduction.proofs.Apart.{R-apart, store-processor, load-processor}
+use Rattle.search_reduction.proofs.Ownership.{R-differ, store-processor, load-processor}
 
 module _ (x : ℕ) where
   -- the latest before x is the last
@@ -64,7 +64,7 @@ module _ (e : Execution) (xs : List ℕ) (x : ℕ) (new : member xs x ≡ false)
           byte-then (sightOf e l b) (eqb-true x (numberOf l R) t) (λ w mw.
               let (v, mv, q) = Memᴰ·of-map _ (keep (λ w. accesses w b) (stores e)) mw in
               ne-eqb x (w .rv) (λ h.
-              R-apart e accepted ml (of-keep (λ w. accesses w b) (stores e) mv .0) (load-processor e accepted ml)
+              R-differ e accepted ml (of-keep (λ w. accesses w b) (stores e) mv .0) (load-processor e accepted ml)
               (sym (eqb-true x (numberOf l R) t) ∙ h ∙ ap (λ (w : Writer). w .rv) (sym q)))),
         ))
         (λ t. rw t)
@@ -98,7 +98,7 @@ module _ (e : Execution) (xs : List ℕ) (x : ℕ) (new : member xs x ≡ false)
           before-absent xs (numberOf w LV) x new,
         )
         (table (bypassed w l) (eqb x (numberOf l R)) (member xs (numberOf w LV)) (eqb x (RV-own w)) (missing e x xs (RV-own w)) (λ t.
-        ne-eqb x (RV-own w) (λ h. R-apart e accepted ml mw (store-processor e accepted mw) (sym (eqb-true x (numberOf l R) t) ∙ h)))))
+        ne-eqb x (RV-own w) (λ h. R-differ e accepted ml mw (store-processor e accepted mw) (sym (eqb-true x (numberOf l R) t) ∙ h)))))
       where
         table : (r o m u k : Bool) → (o ≡ true → u ≡ false) → (r && (o && (m && (not u && k)))) ≡ (r && o && (m && k))
         table false o m u k h = refl

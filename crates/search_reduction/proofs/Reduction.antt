@@ -6,7 +6,7 @@ use mathlib.Core.List.{List, [], _∷_, _++_, map}
 use Rattle.base.specs.Lists.{any, member}
 use Rattle.model.specs.Execution.{Execution, Operation, operations}
 use Rattle.model.specs.Rules.{link1, link2, link3, link4, link5, link6, link7, link8, link13, Claim, must, linksOf, rule9, rule10, rule11, rule12, rule14, rules, consistent}
-use Rattle.model.proofs.Accepted.{Accepted}
+use Rattle.model.specs.Accepted.{Accepted}
 use Rattle.search_reduction.specs.Admits.{admits}
 use Rattle.search_reduction.proofs.Newly.{settles, newlyBroken, keeps-then}
 use Rattle.search_reduction.proofs.Links.{links-split, newly-linked}

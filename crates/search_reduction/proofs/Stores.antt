@@ -10,12 +10,12 @@ use Rattle.base.proofs.Bools.{split, clash, agree, and-parts, and-both, eqb-swa
 use Rattle.base.proofs.Lists.{any-for, any-map, any-one, any-witness, any-member, in-count, of-count}
 use Rattle.model.specs.Execution.{Execution, Instruction, LV, RV, numberOf, stores, everyProcessor}
 use Rattle.model.specs.Rules.{before, addresses, accesses, overlap, inWB, inUC, Claim, _≺_, _⇒_, RV-own, conflict, forConflicts, rule9, rule10, rules, broken, consistent}
-use Rattle.model.proofs.Accepted.{Accepted}
+use Rattle.model.specs.Accepted.{Accepted}
 use Rattle.search_reduction.specs.Admits.{Demand, missing, lost, ownDemands, remoteDemands}
 use Rattle.search_reduction.proofs.Pairs.{any-fails, any-when-one, pair-passes, pair-fails, passing-pair, pairs-same}
 use Rattle.search_reduction.proofs.Settled.{before-absent, before-stands, before-past, before-from, before-other}
 use Rattle.search_reduction.proofs.Newly.{later, settles, newlyBroken}
-use Rattle.search_reduction.proofs.Apart.{processor-in, in-processors, store-processor, RV-apart, LV-apart}
+use Rattle.search_reduction.proofs.Ownership.{processor-in, in-processors, store-processor, RV-differ, LV-differ}
 use Rattle.search_reduction.proofs.Links.{kept, LV-first, own-first}
 
 -- Conflicts
@@ -101,7 +101,7 @@ module _ (e : Execution) (accepted : Accepted e) (xs : List ℕ) (consists : con
         (λ t.
         let first = before-from xs (RV-own v) (numberOf v (RV p)) (numberOf w (RV p)) (own-first e xs consists accepted (k .first-in) p hp) h in
         let turned = before-other xs (RV-own v) (RV-own w) (before-stands xs (RV-own v) (numberOf w (RV p)) first)
-        (RV-apart e accepted (k .first-in) (k .second-in) (other k) v-own w-own) t in
+        (RV-differ e accepted (k .first-in) (k .second-in) (other k) v-own w-own) t in
         clash h (rule10-kept (swapped k) w-own hp
         (before-past xs (RV-own w) (RV-own v) (numberOf v (RV (w .processor))) turned (own-first e xs consists accepted (k .first-in) (w .processor) w-own))))
 
@@ -151,8 +151,8 @@ module _ (e : Execution) (accepted : Accepted e) (xs : List ℕ) (consists : con
         at {v} {w} k =
             table (eqb (v .processor) (w .processor)) (eqb x (RV-own w)) (eqb x (RV-own v)) (eqb x (numberOf v LV)) (before xs (numberOf v LV) (numberOf w LV))
             (missing e x xs (RV-own v)) (later xs x (numberOf w LV)) (before xs (RV-own w) (RV-own v))
-            (λ o. ne-eqb x (RV-own v) (λ u. RV-apart e accepted (k .first-in) (k .second-in) (other k) (v-own k) (w-own k) (sym u ∙ eqb-true x (RV-own w) o)))
-            (λ o. ne-eqb x (numberOf v LV) (λ l. LV-apart e accepted (k .first-in) (k .second-in) (other k) (w-own k) (sym l ∙ eqb-true x (RV-own w) o)))
+            (λ o. ne-eqb x (RV-own v) (λ u. RV-differ e accepted (k .first-in) (k .second-in) (other k) (v-own k) (w-own k) (sym u ∙ eqb-true x (RV-own w) o)))
+            (λ o. ne-eqb x (numberOf v LV) (λ l. LV-differ e accepted (k .first-in) (k .second-in) (other k) (w-own k) (sym l ∙ eqb-true x (RV-own w) o)))
             (λ f. rw (LV-stands (k .second-in) (before-stands xs (RV-own w) (RV-own v) f)) (and-false (not (eqb x (numberOf w LV)))))
 
     -- rule 10
@@ -183,7 +183,7 @@ module _ (e : Execution) (accepted : Accepted e) (xs : List ℕ) (consists : con
             → eqb x (numberOf w (RV q)) ≡ true → eqb x (numberOf v (RV p)) ≡ false
         not-both {v} {w} k {p} {q} hp hq o =
             ne-eqb x (numberOf v (RV p)) (λ u.
-            RV-apart e accepted (k .first-in) (k .second-in) (other k) hp hq (sym u ∙ eqb-true x (numberOf w (RV q)) o))
+            RV-differ e accepted (k .first-in) (k .second-in) (other k) hp hq (sym u ∙ eqb-true x (numberOf w (RV q)) o))
 
         -- x newly settles one of two links, not both
         one-settled : {C : Type 0} (u s p q : Bool) → (s ≡ true → u ≡ false) → (s && (p || u) || u && (q || s)) ≡ true

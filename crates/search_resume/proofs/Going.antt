@@ -42,7 +42,7 @@ going-starts {n} {rows} {allowance} {levels} {entries} {k = k} f r w l v h = rec
   wide = v;
   kept = h;
   rest = λ c tested closed passes. (
-    (passes, h .placed .apart),
+    (passes, h .placed .different),
     onward-starts n c closed (take k entries) allowance
         ∙ ap (λ (a : ℕ). onward 0 (take k entries) (searchFrom n c (take k entries) a)) (let z : allowance ≡ allowance - 0 = omega arith in z),
   );

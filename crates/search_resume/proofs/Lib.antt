@@ -3,4 +3,4 @@ pub mod Greater
 pub mod Onward
 pub mod ReplayLaws
 pub mod Going
-pub mod DriveLaws
+pub mod SearchFromLaws

@@ -18,7 +18,7 @@ use Rattle.search_sets.proofs.Tables.{putAt, put-here, put-word, put-other, put
 use Rattle.search_admit.specs.Rows.{writtenWord, wordsWith, wordsFrom, wordsAfter, firstWords}
 use Rattle.search_admit.specs.Fits.{dueOf, refused, enabled, Standing, Tested}
 use Rattle.search_admit.proofs.FitLaws.{due-first}
-use Rattle.search_enabled.specs.Moves.{Moving}
+use Rattle.search_enabled.specs.Affects.{Affecting}
 use Rattle.search_walk.specs.Walks.{stands, enables, opens, low, high, Levels, Level, Entered, Closed, Kept}
 use Rattle.search_walk.proofs.Gaps.{closed-front, entry}
 use Rattle.search_walk.proofs.Levels.{placed-more, remembered-more, levels-more}
@@ -87,7 +87,7 @@ pub record Replaying (n : ℕ) (rows : List ℕ) (size : ℕ) (given entries pla
   pub whole : length given ≡ 128
   pub long : length places ≡ 128
   pub wide : length words ≡ 128
-  pub apart : distinct n [] (take size given) ≡ true
+  pub different : distinct n [] (take size given) ≡ true
   pub kept : Kept n rows given places levels words replaced j
   pub passes : (c : List ℕ → Bool) → Tested c n rows → Closed c → c [] ≡ true → c (take j given) ≡ true
 
@@ -122,7 +122,7 @@ module _ {n : ℕ} {rows : List ℕ} {size : ℕ} {given entries places levels w
         ∙ take-append-drop (suc j) (take size given)
 
     x-new : (x < n) × (not (member (take j given) x) ≡ true)
-    x-new = entry n (take j given) x [] (distinct-first n [] (take j given ++ (x ∷ [])) (drop (suc j) (take size given)) (ap (distinct n []) front ∙ inv .apart))
+    x-new = entry n (take j given) x [] (distinct-first n [] (take j given ++ (x ∷ [])) (drop (suc j) (take size given)) (ap (distinct n []) front ∙ inv .different))
 
     pub entry-low : x < n
     entry-low = x-new .0
@@ -157,15 +157,15 @@ module _ {n : ℕ} {rows : List ℕ} {size : ℕ} {given entries places levels w
       pub replay-closed : not r ≡ true → Replayed n rows size given false entries places levels words replaced
       replay-closed h = fails (ap (λ (b : Bool). b && not (refused rows places (low levels j) (high levels j) x)) (sym opened ∙ not-true r h))
 
-      module _ {moved : List ℕ} {s : Bool} {entries' places' levels' words' replaced' : List ℕ}
-          (entered : Entered rows moved x j s entries places levels words replaced entries' places' levels' words' replaced') where
+      module _ {affected : List ℕ} {s : Bool} {entries' places' levels' words' replaced' : List ℕ}
+          (entered : Entered rows affected x j s entries places levels words replaced entries' places' levels' words' replaced') where
         pub replay-refused : not s ≡ true → Replayed n rows size given false entries' places' levels' words' replaced'
         replay-refused h =
             let (a, b, d, e, f) = entered .left (not-true s h) in
             rw (a, b, d, e, f) (fails (ap (λ (q : Bool). opens levels j x && q) (sym (entered .told) ∙ not-true s h) ∙ and-false (opens levels j x)))
 
-        pub replay-more : not r ≡ false → not s ≡ false → Moving n rows moved → Replaying n rows size given entries' places' levels' words' replaced' (j + 1)
-        replay-more h1 h2 moving = let (d, e, f, g, made, full) = entered .made (not-false s h2) in rw (e, f, g) record {
+        pub replay-more : not r ≡ false → not s ≡ false → Affecting n rows affected → Replaying n rows size given entries' places' levels' words' replaced' (j + 1)
+        replay-more h1 h2 affecting-are = let (d, e, f, g, made, full) = entered .made (not-false s h2) in rw (e, f, g) record {
           few = inv .few;
           room = inv .room;
           within = omega arith;
@@ -173,13 +173,13 @@ module _ {n : ℕ} {rows : List ℕ} {size : ℕ} {given entries places levels w
           whole = inv .whole;
           long = length-set places x j ∙ inv .long;
           wide = length-set words (writtenWord rows x) _ ∙ inv .wide;
-          apart = inv .apart;
+          different = inv .different;
           kept = subst (λ (xs : List ℕ). Kept n rows xs (set places x j) levels' (wordsWith rows words x) (set replaced j (getD words (writtenWord rows x) 0)) (j + 1))
               (ap (set given j) x-is ∙ set-getD given j 0)
               (record {
                 placed = placed-more given j x inside n places (inv .long) (inv .kept .placed) entry-low new;
-                levelled = levels-more (inv .kept .levelled) moved moving (inv .few) x entry-low inside
-                    (subst (λ (ws : List ℕ). Level rows moved ws x j levels levels') (f ∙ ap (λ (ws : List ℕ). wordsWith rows ws x) (inv .kept .remembered .now-are)) made);
+                levelled = levels-more (inv .kept .levelled) affected affecting-are (inv .few) x entry-low inside
+                    (subst (λ (ws : List ℕ). Level rows affected ws x j levels levels') (f ∙ ap (λ (ws : List ℕ). wordsWith rows ws x) (inv .kept .remembered .now-are)) made);
                 remembered = remembered-more (inv .kept .remembered) x (inv .whole) full (omega (arith, inv .few, inv .room));
               });
           passes = λ c tested closed empty.

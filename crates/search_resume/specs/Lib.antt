@@ -1,4 +1,4 @@
 -- The definitions of this crate.
 pub mod Replies
 pub mod Replays
-pub mod Drives
+pub mod Outcomes

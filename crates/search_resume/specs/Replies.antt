@@ -3,9 +3,9 @@ use Prim.Native.Nat.{ℕ, _+_}
 use mathlib.Core.Bool.{Bool, true, false, cond}
 use mathlib.Core.List.{List}
 use Rattle.model.specs.Search as model
-use Rattle.search_resume.specs.declared.drive.Verdict.{Verdict}
-use Rattle.search_resume.specs.declared.drive.Verdict.the-variants.{Unfinished, Allowed, Forbidden}
-use Rattle.search_resume.specs.declared.drive.Outcome.{Outcome}
+use Rattle.search_resume.specs.declared.steps.Verdict.{Verdict}
+use Rattle.search_resume.specs.declared.steps.Verdict.the-variants.{Unfinished, Allowed, Forbidden}
+use Rattle.search_resume.specs.declared.steps.Outcome.{Outcome}
 use Rattle.record_decoded.specs.Positions.{positionOf}
 
 abbrev pub verdictMeant : Verdict → model.Verdict

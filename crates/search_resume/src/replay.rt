@@ -7,7 +7,7 @@ ghost use lib.ListN as ListN;
 ghost use lib.ListN.{take};
 ghost use Rattle.base.specs.Lists.{distinct};
 ghost use Rattle.search_admit.specs.Rows.{firstWords};
-ghost use Rattle.search_enabled.specs.Moves.{Moving};
+ghost use Rattle.search_enabled.specs.Affects.{Affecting};
 ghost use Rattle.search_walk.specs.Walks.{Levels, Kept};
 ghost use Rattle.search_resume.specs.Replays.{Replayed};
 use record_decoded::types::wide;
@@ -54,9 +54,9 @@ pub fn replay(
     words: &mut [u64; 128],
     replaced: &mut [u64; 128],
     rows: &[u64; 2304],
-    moved: &[u64; 256],
+    affected: &[u64; 256],
 ) -> bool
-    requires { ⌜ (n ≤ 128) × (length ≤ n) × (distinct n [] (take length (now entries)) ≡ true) × Kept n (now rows) (now entries) (now places) (now levels) (now words) (now replaced) 0 × Moving n (now rows) (now moved) ⌝ }
+    requires { ⌜ (n ≤ 128) × (length ≤ n) × (distinct n [] (take length (now entries)) ≡ true) × Kept n (now rows) (now entries) (now places) (now levels) (now words) (now replaced) 0 × Affecting n (now rows) (now affected) ⌝ }
     requires { ⌜ (ListN.length (now entries) ≡ 128) × (ListN.length (now places) ≡ 128) × (ListN.length (now words) ≡ 128) ⌝ }
     ensures { λ r. ⌜ Replayed n (now (rows .entry)) length (now (entries .entry)) r (now (entries .exit)) (now (places .exit)) (now (levels .exit)) (now (words .exit)) (now (replaced .exit)) ⌝ }
 {
@@ -67,7 +67,17 @@ pub fn replay(
         if !has(candidates, x) {
             return false;
         }
-        if !enter(entries, j, places, levels, words, replaced, rows, moved, x) {
+        if !enter(
+            entries,
+            j,
+            places,
+            levels,
+            words,
+            replaced,
+            rows,
+            affected,
+            x,
+        ) {
             return false;
         }
         j += 1;

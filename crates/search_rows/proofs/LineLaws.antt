@@ -59,12 +59,12 @@ unfolding allBelow
 ones-bit k h = all-at (bit 255) 8 refl k h
 
 -- The invariant: the bytes at the first j places from `place` on are in the word.
-pub record Laid (p : ℕ → Bool) (place size j word : ℕ) : Type 0 where
+pub record BytesIn (p : ℕ → Bool) (place size j word : ℕ) : Type 0 where
   pub few : j ≤ size
   pub bits : (i : ℕ) → i < 64 → bit word i ≡ (leb place (i / 8) && ltb (i / 8) (place + j) && p i)
 
-pub laid-none : {p : ℕ → Bool} {place size : ℕ} → Laid p place size 0 0
-laid-none {p} {place} {size} = record {
+pub bytes-none : {p : ℕ → Bool} {place size : ℕ} → BytesIn p place size 0 0
+bytes-none {p} {place} {size} = record {
   few = omega arith;
   bits = λ i l. zero-has i ∙ go i (leb place (i / 8)) refl (ltb (i / 8) (place + 0)) refl (p i);
 }
@@ -74,10 +74,10 @@ laid-none {p} {place} {size} = record {
     go i true e false f c = refl
     go i false e b f c = refl
 
-pub laid-more : {p : ℕ → Bool} {place size j word : ℕ} → Laid p place size j word → j < size → (word' b : ℕ)
+pub bytes-more : {p : ℕ → Bool} {place size j word : ℕ} → BytesIn p place size j word → j < size → (word' b : ℕ)
     → ((i : ℕ) → i < 64 → bit word' i ≡ (bit word i || (eqb (i / 8) (place + j) && bit b (i % 8)))) → ((i : ℕ) → i < 64 → i / 8 ≡ place + j → bit b (i % 8) ≡ p i)
-    → Laid p place size (j + 1) word'
-laid-more {p} {place} {size} {j} {word} inv l word' b more is = record {
+    → BytesIn p place size (j + 1) word'
+bytes-more {p} {place} {size} {j} {word} inv l word' b more is = record {
   few = omega arith;
   bits = λ i s. more i s ∙ ap (λ (c : Bool). c || (eqb (i / 8) (place + j) && bit b (i % 8))) (inv .bits i s) ∙ one i s;
 }
@@ -92,8 +92,8 @@ laid-more {p} {place} {size} {j} {word} inv l word' b more is = record {
         (agree (ltb (i / 8) (place + j)) (ltb (i / 8) (place + (j + 1))) (λ t. lt-ltb (i / 8) (place + (j + 1)) (omega (arith, ltb-true (i / 8) (place + j) t)))
         (λ t. lt-ltb (i / 8) (place + j) (omega (arith, ltb-true (i / 8) (place + (j + 1)) t, e)))))
 
-pub laid : {p : ℕ → Bool} {place size j word : ℕ} → Laid p place size j word → size ≤ j → (i : ℕ) → i < 64 → bit word i ≡ (leb place (i / 8) && ltb (i / 8) (place + size) && p i)
-laid {p} {place} {size} {j} inv h i s = inv .bits i s ∙ ap (λ (k : ℕ). leb place (i / 8) && ltb (i / 8) (place + k) && p i) (let z : j ≡ size = omega (arith, inv .few) in z)
+pub bytes-in : {p : ℕ → Bool} {place size j word : ℕ} → BytesIn p place size j word → size ≤ j → (i : ℕ) → i < 64 → bit word i ≡ (leb place (i / 8) && ltb (i / 8) (place + size) && p i)
+bytes-in {p} {place} {size} {j} inv h i s = inv .bits i s ∙ ap (λ (k : ℕ). leb place (i / 8) && ltb (i / 8) (place + k) && p i) (let z : j ≡ size = omega (arith, inv .few) in z)
 
 -- bytes looked at one after the other
 pub known-more : (bytes : List ℕ) (j : ℕ) → ((i : ℕ) → i < j → getD bytes i 0 < 256) → getD bytes j 0 < 256 → (i : ℕ) → i < j + 1 → getD bytes i 0 < 256

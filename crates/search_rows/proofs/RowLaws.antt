@@ -12,17 +12,17 @@ use Rattle.base.specs.Bits.{bit}
 use Rattle.base.proofs.Bools.{clash}
 use Rattle.model.specs.Execution.{operations}
 use Rattle.model.specs.Rules.{linked}
-use Rattle.model.proofs.Accepted.{Accepted, Sound}
+use Rattle.model.specs.Accepted.{Accepted, Sound}
 use Rattle.record_decoded.specs.declared.types.Execution.{Execution}
 use Rattle.record_decoded.specs.Decoded.{instructionAt, executionOf}
 use Rattle.relation_links.specs.declared.operations.Operations.{Operations}
 use Rattle.relation_links.specs.Operations.{operationAt}
 use Rattle.relation_links.specs.Compiled.{Compiled}
 use Rattle.relation_links.proofs.CompiledLaws.{few-instructions, owner-there}
-use Rattle.search_reduction.proofs.Apart.{each-in}
+use Rattle.search_reduction.proofs.Ownership.{each-in}
 use Rattle.search_sets.specs.Set.{holds}
 use Rattle.search_sets.proofs.Laws.{zero-has}
-use Rattle.search_admit.specs.Rows.{writes, visibleAt, ownAt, covers, dataBit, rivalBy, RowOf}
+use Rattle.search_admit.specs.Rows.{writes, visibleAt, ownAt, covers, dataBit, awaitedBy, RowOf}
 use Rattle.relation_marks.specs.Marks.{hasMark, markAt}
 use Rattle.search_constraints.specs.Rows.{partnerOf, partnerAt, linkedOf, besideBy}
 use Rattle.search_constraints.proofs.LinkedLaws.{preds-mean}
@@ -88,8 +88,8 @@ module _ {x : Execution} {t : Operations} {marks : List (List ℕ)} (h : Compile
   abbrev linkedSome : ℕ → List ℕ → List ℕ → List ℕ → ℕ → ℕ → Bool
   linkedSome role ks fs ps w a = anyBelow (x .instructions .count) (λ v. linkedOf (x .processors) ks fs ps marks w role v a)
 
-  abbrev rivalSome : ℕ → List ℕ → List ℕ → ℕ → ℕ → Bool
-  rivalSome role fs ps w a = anyBelow (x .instructions .count) (λ v. rivalBy (markAt marks v w) role (getD fs v 0) (getD ps v 0) a)
+  abbrev awaitedSome : ℕ → List ℕ → List ℕ → ℕ → ℕ → Bool
+  awaitedSome role fs ps w a = anyBelow (x .instructions .count) (λ v. awaitedBy (markAt marks v w) role (getD fs v 0) (getD ps v 0) a)
 
   abbrev bypassSome : ℕ → List ℕ → List ℕ → List ℕ → List ℕ → ℕ → ℕ → Bool
   bypassSome role ks fs ps from w a =
@@ -101,10 +101,10 @@ module _ {x : Execution} {t : Operations} {marks : List (List ℕ)} (h : Compile
       ap₂ (λ (ks fs : List ℕ). linkedSome role ks fs processors w a) (lent .kinds-are) (lent .firsts-are)
       ∙ ap₂ (λ (ps : List ℕ) (v : ℕ). linkedSome role (x .instructions .kinds) (x .instructions .firsts) ps v a) (lent .processors-are) iw
 
-  rivals-lent : (w a : ℕ) → w ≡ owner → rivalSome role firsts processors w a ≡ rivalSome role (x .instructions .firsts) (x .instructions .processors) owner a
-  rivals-lent w a iw =
-      ap (λ (fs : List ℕ). rivalSome role fs processors w a) (lent .firsts-are)
-      ∙ ap₂ (λ (ps : List ℕ) (v : ℕ). rivalSome role (x .instructions .firsts) ps v a) (lent .processors-are) iw
+  awaited-lent : (w a : ℕ) → w ≡ owner → awaitedSome role firsts processors w a ≡ awaitedSome role (x .instructions .firsts) (x .instructions .processors) owner a
+  awaited-lent w a iw =
+      ap (λ (fs : List ℕ). awaitedSome role fs processors w a) (lent .firsts-are)
+      ∙ ap₂ (λ (ps : List ℕ) (v : ℕ). awaitedSome role (x .instructions .firsts) ps v a) (lent .processors-are) iw
 
   bypass-lent : (w a : ℕ) → w ≡ owner
       → bypassSome role kinds firsts processors addresses w a ≡ bypassSome role (x .instructions .kinds) (x .instructions .firsts) (x .instructions .processors) (x .instructions .addresses) owner a
@@ -129,7 +129,7 @@ module _ {x : Execution} {t : Operations} {marks : List (List ℕ)} (h : Compile
       → line ≡ getD addresses w 0 / 8
       → ((a : ℕ) → a < 128 → holds (row 0) (row 1) a ≡ linkedSome r kinds firsts processors w a)
       → ((a : ℕ) → holds (row 2) (row 3) a ≡ partnerOf (markAt marks w w) r first (x .processors) a)
-      → ((a : ℕ) → a < 128 → holds (row 4) (row 5) a ≡ rivalSome r firsts processors w a)
+      → ((a : ℕ) → a < 128 → holds (row 4) (row 5) a ≡ awaitedSome r firsts processors w a)
       → ((a : ℕ) → a < 128 → holds (row 6) (row 7) a ≡ bypassSome r kinds firsts processors addresses w a)
       → (bits written : ℕ) → ((i : ℕ) → i < 64 → bit bits i ≡ covers x w i) → ((i : ℕ) → i < 64 → bit written i ≡ dataBit x w i)
       → (writing : Bool) → writing ≡ writes r
@@ -141,10 +141,10 @@ module _ {x : Execution} {t : Operations} {marks : List (List ℕ)} (h : Compile
       → RowOf x t marks o row
 
   row-by-role : RowIs role
-  row-by-role row w first processor line iw isf ip il preds partners rivals bypasses bits written bits-are data-are writing wr r8 r9 r10 r11 r12 r13 r14 r15 r16 = record {
+  row-by-role row w first processor line iw isf ip il preds partners awaited bypasses bits written bits-are data-are writing wr r8 r9 r10 r11 r12 r13 r14 r15 r16 = record {
     preds-are = λ a l. preds a l ∙ linked-lent w a iw ∙ each-linked h o a ∙ preds-mean h accepted o a there ∙ ap (λ (n : ℕ). ltb a n && linked (executionOf x) (operationAt (x .instructions) t a) (operationAt (x .instructions) t o)) (h .tabled .counts);
     partners-are = λ a l. partners a ∙ ap₂ (λ (v f : ℕ). partnerOf (markAt marks v v) role f (x .processors) a) iw first-is ∙ partner-by a ∙ partner-means h accepted o there a;
-    rivals-are = λ a l. rivals a l ∙ rivals-lent w a iw;
+    awaited-are = λ a l. awaited a l ∙ awaited-lent w a iw;
     bypasses-are = λ a l. bypasses a l ∙ bypass-lent w a iw;
     writes-bits = λ i l. ap (λ (v : ℕ). bit v i) r8 ∙ wanted-bit writing (covers x w i) bits i (bits-are i l) ∙ ap₂ (λ (b : Bool) (v : ℕ). b && covers x v i) wr iw;
     writes-data = λ i l. ap (λ (v : ℕ). bit v i) r9 ∙ wanted-bit writing (dataBit x w i) written i (data-are i l) ∙ ap₂ (λ (b : Bool) (v : ℕ). b && dataBit x v i) wr iw;

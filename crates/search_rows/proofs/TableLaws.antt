@@ -13,7 +13,7 @@ use Rattle.record_decoded.specs.declared.types.Execution.{Execution}
 use Rattle.record_decoded.specs.Decoded.{executionOf}
 use Rattle.relation_links.specs.declared.operations.Operations.{Operations}
 use Rattle.relation_links.specs.Compiled.{Compiled}
-use Rattle.search_admit.specs.Rows.{field, firstWords, Initial, Bytes, RowOf, Holds}
+use Rattle.search_admit.specs.Rows.{field, firstWords, Initial, Bytes, RowOf, RowsMean}
 use Rattle.search_sets.specs.Set.{holds}
 use Rattle.search_rows.specs.Puts.{Put}
 
@@ -53,16 +53,16 @@ pub put-more : {before row : List ℕ} {at j : ℕ} {after : List ℕ} → Put b
 put-more {before} {row} {at} {j} {after} inv room = record {
   long = length-set after (at + j) (getD row j 0) ∙ inv .long;
   new = λ f h. go f h (ℕ-discrete f j);
-  old = λ i h. getD-set-other after (at + j) i (getD row j 0) 0 (λ e. apart i h e) ∙ inv .old i (⊎-elim (λ l. inl l) (λ l. inr (omega arith)) h);
+  old = λ i h. getD-set-other after (at + j) i (getD row j 0) 0 (λ e. elsewhere i h e) ∙ inv .old i (⊎-elim (λ l. inl l) (λ l. inr (omega arith)) h);
 }
   where
     go : (f : ℕ) → f < j + 1 → Dec (f ≡ j) → getD (set after (at + j) (getD row j 0)) (at + f) 0 ≡ getD row f 0
     go f h (yes q) = rw q (getD-set-same after (at + j) (getD row j 0) 0 (omega (arith, inv .long)))
     go f h (no q) = getD-set-other after (at + j) (at + f) (getD row j 0) 0 (λ e. q (omega arith)) ∙ inv .new f (omega arith)
 
-    apart : (i : ℕ) → (i < at) ⊎ (at + (j + 1) ≤ i) → i ≡ at + j → ⊥
-    apart i (inl l) e = omega arith
-    apart i (inr l) e = omega arith
+    elsewhere : (i : ℕ) → (i < at) ⊎ (at + (j + 1) ≤ i) → i ≡ at + j → ⊥
+    elsewhere i (inl l) e = omega arith
+    elsewhere i (inr l) e = omega arith
 
 pub put-done : {before row : List ℕ} {at j : ℕ} {after : List ℕ} → Put before row at j after → j ≡ 17 → Put before row at 17 after
 put-done {before} {row} {at} {j} {after} inv e = subst (λ (k : ℕ). Put before row at k after) e inv
@@ -72,7 +72,7 @@ row-same : {x : Execution} {t : Operations} {marks : List (List ℕ)} {o : ℕ} 
 row-same row row' e r = record {
   preds-are = λ a l. ap₂ (λ (u v : ℕ). holds u v a) (e 0 (omega arith)) (e 1 (omega arith)) ∙ r .preds-are a l;
   partners-are = λ a l. ap₂ (λ (u v : ℕ). holds u v a) (e 2 (omega arith)) (e 3 (omega arith)) ∙ r .partners-are a l;
-  rivals-are = λ a l. ap₂ (λ (u v : ℕ). holds u v a) (e 4 (omega arith)) (e 5 (omega arith)) ∙ r .rivals-are a l;
+  awaited-are = λ a l. ap₂ (λ (u v : ℕ). holds u v a) (e 4 (omega arith)) (e 5 (omega arith)) ∙ r .awaited-are a l;
   bypasses-are = λ a l. ap₂ (λ (u v : ℕ). holds u v a) (e 6 (omega arith)) (e 7 (omega arith)) ∙ r .bypasses-are a l;
   writes-bits = λ i l. ap (λ (u : ℕ). bit u i) (e 8 (omega arith)) ∙ r .writes-bits i l;
   writes-data = λ i l. ap (λ (u : ℕ). bit u i) (e 9 (omega arith)) ∙ r .writes-data i l;
@@ -111,7 +111,7 @@ filled-more {x} {t} {marks} {n} {rows} {o} inv l few row made {after} put = reco
         subst (λ (j : ℕ). RowOf x t marks j (λ f. field after f j)) e (row-same (λ f. getD row f 0) (λ f. field after f o) (λ f s. put .new f s) made)
 
 pub filled : {x : Execution} {t : Operations} {marks : List (List ℕ)} {n : ℕ} {rows : List ℕ} {o : ℕ} → Filled x t marks n rows o → n ≤ o → Compiled x t marks → n ≡ operations (executionOf x)
-    → Bytes (x .instructions .bytes) → Bytes (x .lines .initial) → Holds x t marks rows
+    → Bytes (x .instructions .bytes) → Bytes (x .lines .initial) → RowsMean x t marks rows
 filled {x} {t} {marks} {n} {rows} {o} inv h compiled count b c = record {
   compiled = compiled;
   rowed = λ k l. inv .rowed k (omega arith);

@@ -5,7 +5,7 @@ ghost use Prim.Native.Nat.{ℕ, _+_, _-_, _<_};
 ghost use lib.ListN.{getD};
 ghost use lib.Dec.{eqb};
 ghost use Rattle.model.specs.Execution.{operations};
-ghost use Rattle.model.proofs.Accepted.{Accepted};
+ghost use Rattle.model.specs.Accepted.{Accepted};
 ghost use Rattle.record_decoded.specs.Decoded.{executionOf};
 ghost use Rattle.relation_links.specs.Compiled.{Compiled};
 ghost use Rattle.search_admit.specs.Rows.{writes, visibleAt, ownAt, RowOf};
@@ -19,10 +19,10 @@ use record_decoded::types::Execution;
 use record_decoded::types::wide;
 use record_decoded::types::wide16;
 use relation_links::operations::Operations;
+use search_constraints::awaited_at;
 use search_constraints::bypasses_at;
 use search_constraints::partners_at;
 use search_constraints::preds_at;
-use search_constraints::rivals_at;
 
 // Whether an operation with a role writes: an LV or an RV.
 fn is_writing(role: u8) -> bool
@@ -94,7 +94,7 @@ pub fn row_of<'a>(
     let place = address % 8;
     let preds = preds_at(n, every, kinds, firsts, processors, marks, w, role);
     let partners = partners_at(marks[w][w], role, first, every);
-    let rivals = rivals_at(n, firsts, processors, marks, w, role);
+    let awaited = awaited_at(n, firsts, processors, marks, w, role);
     let bypasses = bypasses_at(n, kinds, firsts, processors, addresses, w, role);
     let bits = bits_from(place, size);
     let data = data_from(bytes, w, place, size);
@@ -115,8 +115,8 @@ pub fn row_of<'a>(
         preds.hi,
         partners.lo,
         partners.hi,
-        rivals.lo,
-        rivals.hi,
+        awaited.lo,
+        awaited.hi,
         bypasses.lo,
         bypasses.hi,
         written_bits,

@@ -2,10 +2,10 @@
 ghost use mathlib.Core.Path.{_≡_};
 ghost use Prim.Native.Nat.{_*_, _<_};
 ghost use lib.ListN.{length};
-ghost use Rattle.model.proofs.Accepted.{Accepted};
+ghost use Rattle.model.specs.Accepted.{Accepted};
 ghost use Rattle.record_decoded.specs.Decoded.{executionOf};
 ghost use Rattle.relation_links.specs.Compiled.{Compiled};
-ghost use Rattle.search_admit.specs.Rows.{firstWords, Initial, Bytes, Holds};
+ghost use Rattle.search_admit.specs.Rows.{firstWords, Initial, Bytes, RowsMean};
 ghost use Rattle.search_rows.specs.Puts.{Put};
 use crate::line::initial_word;
 use crate::line::known_bytes;
@@ -49,7 +49,7 @@ fn known_data(x: Execution)
 // What is compiled of an execution.
 pub fn rows_of(x: Execution, t: Operations, marks: &[[u16; 40]; 40]) -> [u64; 2304]
     requires { ⌜ Compiled x t (now marks) × Accepted (executionOf x) ⌝ }
-    ensures { λ r. ⌜ Holds x t (now (marks .entry)) r ⌝ }
+    ensures { λ r. ⌜ RowsMean x t (now (marks .entry)) r ⌝ }
 {
     let n = t.count;
     let owners = t.owners;

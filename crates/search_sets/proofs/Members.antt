@@ -70,7 +70,7 @@ module _ (lo hi : ℕ) (p : ℕ → Bool) where
   pub over-ends : {m : ℕ} → Over lo hi m → 128 ≤ m → anyBelow m (λ i. holds lo hi i && p i) ≡ anyBelow 128 (λ i. holds lo hi i && p i)
   over-ends o l = ap (λ (k : ℕ). anyBelow k (λ i. holds lo hi i && p i)) (omega (arith, o .within))
 
--- The invariant of a loop over numbers: what held at the start still holds, and besides what passes below i.
+-- The invariant of a loop over numbers: what held at the start still holds, and storesToLine what passes below i.
 pub record Grown (start test now : ℕ → Bool) (i : ℕ) : Type 0 where
   pub has : (k : ℕ) → k < 128 → now k ≡ (start k || (ltb k i && test k))
 

@@ -20,8 +20,8 @@ use Rattle.search_admit.specs.Rows.{writtenWord, wordsWith, wordsFrom, wordsAft
 use Rattle.search_sets.proofs.Tables.{putAt, put-low, put-high, put-here, put-word, put-other, put-length}
 use Rattle.search_admit.specs.Fits.{dueAfter, dueOf, enabled}
 use Rattle.search_admit.proofs.FitLaws.{due-more}
-use Rattle.search_enabled.specs.Moves.{Moving, enabledAfter}
-use Rattle.search_enabled.proofs.Unmoved.{enabled-more}
+use Rattle.search_enabled.specs.Affects.{Affecting, enabledAfter}
+use Rattle.search_enabled.proofs.Unaffected.{enabled-more}
 use Rattle.search_walk.specs.Walks.{stands, enables, opens, low, high, Levels, Level, Remembered}
 use Rattle.search_walk.proofs.Gaps.{entry}
 
@@ -46,12 +46,12 @@ pub placed-less : (n : ℕ) (xs : List ℕ) (x : ℕ) (places : List ℕ) → le
 unfolding placed
 placed-less n xs x places long h = record {
   few = h .few;
-  apart = distinct-first n [] xs (x ∷ []) (h .apart);
+  different = distinct-first n [] xs (x ∷ []) (h .different);
   stands = λ o. stands o (ℕ-discrete o x);
 }
   where
     last : (x < n) × (member xs x ≡ false)
-    last = let (a, b) = entry n xs x [] (h .apart) in (a, not-true (member xs x) b)
+    last = let (a, b) = entry n xs x [] (h .different) in (a, not-true (member xs x) b)
 
     stands : (o : ℕ) → Dec (o ≡ x) → placed (set places x 255) o ≡ placeFrom 0 xs o
     stands o (yes q) =
@@ -124,10 +124,10 @@ module _ {rows position words replaced : List ℕ} {k : ℕ} (r : Remembered row
           (ap (wordsAfter rows) (sym (take-set-le j position k x (omega arith)))) (sym (getD-set-other position k j x 0 q))
 
 -- the three sets of a level, put one after the other
-module _ (rows moved words levels : List ℕ) (x k lo hi slo shi blo bhi elo ehi olo ohi : ℕ) (long : length levels ≡ 774) (small : k < 128)
+module _ (rows affected words levels : List ℕ) (x k lo hi slo shi blo bhi elo ehi olo ohi : ℕ) (long : length levels ≡ 774) (small : k < 128)
     (was : (lo ≡ getD levels (2 * (3 * k)) 0) × (hi ≡ getD levels (2 * (3 * k) + 1) 0)) (more : (a : ℕ) → holds slo shi a ≡ (holds lo hi a || eqb a x))
     (before : (blo ≡ getD levels (2 * (3 * k + 1)) 0) × (bhi ≡ getD levels (2 * (3 * k + 1) + 1) 0))
-    (able : (a : ℕ) → a < 128 → holds elo ehi a ≡ enabledAfter rows moved words blo bhi slo shi x a)
+    (able : (a : ℕ) → a < 128 → holds elo ehi a ≡ enabledAfter rows affected words blo bhi slo shi x a)
     (due : (a : ℕ) → holds olo ohi a ≡ (dueAfter rows x slo shi a && holds elo ehi a)) where
   abbrev one : List ℕ
   one = putAt levels (3 * (k + 1)) slo shi
@@ -161,15 +161,15 @@ module _ (rows moved words levels : List ℕ) (x k lo hi slo shi blo bhi elo ehi
       put-other two (3 * (k + 1) + 2) olo ohi (3 * (k + 1) + 1) (λ e. omega arith) a
       ∙ put-here one (3 * (k + 1) + 1) elo ehi (omega (arith, one-long)) a
 
-  pub level-made : {levels' : List ℕ} → levels' ≡ three → Level rows moved words x k levels levels'
+  pub level-made : {levels' : List ℕ} → levels' ≡ three → Level rows affected words x k levels levels'
   level-made e = rw e record {
     below = λ i h. early i (omega arith) ∙ put-word levels (3 * (k + 1)) slo shi i (λ q. omega arith) (λ q. omega arith);
     stands-more = λ a.
         ap₂ (λ (u v : ℕ). holds u v a) low-is high-is ∙ more a ∙ ap₂ (λ (u v : ℕ). holds u v a || eqb a x) (was .0) (was .1);
     enables-more = λ a l.
         enables-are a ∙ able a l
-        ∙ ap₂ (λ (u v : ℕ). enabledAfter rows moved words u v slo shi x a) (before .0) (before .1)
-        ∙ ap₂ (λ (u v : ℕ). enabledAfter rows moved words (getD levels (2 * (3 * k + 1)) 0) (getD levels (2 * (3 * k + 1) + 1) 0) u v x a) (sym low-is) (sym high-is);
+        ∙ ap₂ (λ (u v : ℕ). enabledAfter rows affected words u v slo shi x a) (before .0) (before .1)
+        ∙ ap₂ (λ (u v : ℕ). enabledAfter rows affected words (getD levels (2 * (3 * k + 1)) 0) (getD levels (2 * (3 * k + 1) + 1) 0) u v x a) (sym low-is) (sym high-is);
     opens-more = λ a.
         put-here two (3 * (k + 1) + 2) olo ohi (omega (arith, two-long)) a ∙ due a
         ∙ ap₂ (λ (u v : ℕ). dueAfter rows x u v a && holds elo ehi a) (sym low-is) (sym high-is)
@@ -185,8 +185,8 @@ levels-less h k l = record {
 }
 
 -- the sets of one level more
-module _ {n : ℕ} {rows position levels : List ℕ} {k : ℕ} (was : Levels n rows position levels k) (moved : List ℕ) (moving : Moving n rows moved) (few : n ≤ 128) (x : ℕ)
-    (low-x : x < n) (room : k < length position) {levels' : List ℕ} (made : Level rows moved (wordsWith rows (wordsAfter rows (take k position)) x) x k levels levels') where
+module _ {n : ℕ} {rows position levels : List ℕ} {k : ℕ} (was : Levels n rows position levels k) (affected : List ℕ) (affecting-are : Affecting n rows affected) (few : n ≤ 128) (x : ℕ)
+    (low-x : x < n) (room : k < length position) {levels' : List ℕ} (made : Level rows affected (wordsWith rows (wordsAfter rows (take k position)) x) x k levels levels') where
   abbrev position' : List ℕ
   position' = set position k x
 
@@ -235,7 +235,7 @@ module _ {n : ℕ} {rows position levels : List ℕ} {k : ℕ} (was : Levels n r
           let e : j ≡ k + 1 = omega arith in
           rw e
           (made .enables-more a (omega arith)
-          ∙ enabled-more rows moved moving (wordsAfter rows (take k position)) (getD levels (2 * (3 * k + 1)) 0) (getD levels (2 * (3 * k + 1) + 1) 0) (low levels k) (high levels k) (low levels' (k + 1)) (high levels' (k + 1)) x a low-x l
+          ∙ enabled-more rows affected affecting-are (wordsAfter rows (take k position)) (getD levels (2 * (3 * k + 1)) 0) (getD levels (2 * (3 * k + 1) + 1) 0) (low levels k) (high levels k) (low levels' (k + 1)) (high levels' (k + 1)) x a low-x l
           (made .stands-more) (was .able k a (omega arith) l)
           ∙ ap (λ (ws : List ℕ). not (stands levels' (k + 1) a) && enabled rows (low levels' (k + 1)) (high levels' (k + 1)) ws a) (sym words-then))
       able j a h l (no g) =

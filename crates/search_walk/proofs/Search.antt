@@ -18,8 +18,8 @@ use Rattle.relation_places.specs.Places.{Placed}
 use Rattle.search_sets.specs.Set.{holds}
 use Rattle.search_sets.specs.declared.Set.{Set}
 use Rattle.search_admit.specs.Rows.{writtenWord, wordsWith, wordsAfter}
-use Rattle.search_admit.specs.Fits.{dueOf, ready, refused, sees, enabled, fitsBy, Standing, Tested}
-use Rattle.search_enabled.specs.Moves.{Moving}
+use Rattle.search_admit.specs.Fits.{dueOf, ready, refused, readsRecorded, enabled, fitsBy, Standing, Tested}
+use Rattle.search_enabled.specs.Affects.{Affecting}
 use Rattle.search_walk.specs.declared.WalkAnswer.the-variants.{Next, End}
 use Rattle.search_walk.specs.Walks.{stands, enables, opens, low, high, Levels, Level, Remembered, Closed, IsNext, Kept, Walked}
 use Rattle.search_walk.proofs.Gaps.{Gap, closed-front, entry, gap-starts, gap-more, gap-skip, gap-up, gap-last, gap-next}
@@ -71,7 +71,7 @@ module _ {n : ℕ} {rows position levels : List ℕ} {size : ℕ} (h : Levels n 
   open-tells x l p tested passes {places} placed =
       sym (tested .one-more (take k position) places (low levels k) (high levels k) x passes placed standing l)
       ∙ regroup (dueOf rows (take k position) (low levels k) (high levels k) x) (not (stands levels k x)) (ready rows (low levels k) (high levels k) x)
-      (not (refused rows places (low levels k) (high levels k) x)) (sees rows (low levels k) (high levels k) (wordsAfter rows (take k position)) x)
+      (not (refused rows places (low levels k) (high levels k) x)) (readsRecorded rows (low levels k) (high levels k) (wordsAfter rows (take k position)) x)
       ∙ ap (λ (b : Bool). b && not (refused rows places (low levels k) (high levels k) x))
       (sym (h .due k x within l ∙ ap (λ (b : Bool). dueOf rows (take k position) (low levels k) (high levels k) x && b) (h .able k x within l)))
     where
@@ -169,7 +169,7 @@ module _ {n : ℕ} {rows xs : List ℕ} {size : ℕ} {position places levels wor
         ∙ ap (λ (o : ℕ). take j position ++ (o ∷ [])) (sym is)
 
     pub last-below : last < n
-    last-below = entry n (take j position) last [] (subst (λ (ys : List ℕ). distinct n [] ys ≡ true) shorter (at .places-hold .apart)) .0
+    last-below = entry n (take j position) last [] (subst (λ (ys : List ℕ). distinct n [] ys ≡ true) shorter (at .places-hold .different)) .0
 
     -- no candidate is left at this level: the last entry is taken away
     pub search-up : (s : Set) → n ≤ c → (s .lo ≡ getD levels (2 * (3 * j + 2)) 0) × (s .hi ≡ getD levels (2 * (3 * j + 2) + 1) 0)
@@ -213,12 +213,12 @@ module _ {n : ℕ} {rows xs : List ℕ} {size : ℕ} {position places levels wor
       no-level (suc j) e = absurd (omega (arith, at .from .room))
 
   -- the candidate is open and not refused
-  pub search-found : (moved : List ℕ) → Moving n rows moved → length replaced ≡ 128 → c < n → holds lo hi c ≡ true
+  pub search-found : (affected : List ℕ) → Affecting n rows affected → length replaced ≡ 128 → c < n → holds lo hi c ≡ true
       → refused rows places (low levels k) (high levels k) c ≡ false
       → {position' places' levels' words' replaced' : List ℕ} → position' ≡ set position k c → places' ≡ set places c k → words' ≡ wordsWith rows words c
-      → replaced' ≡ set replaced k (getD words (writtenWord rows c) 0) → Level rows moved words' c k levels levels'
+      → replaced' ≡ set replaced k (getD words (writtenWord rows c) 0) → Level rows affected words' c k levels levels'
       → Walked n rows xs (Next (k + 1)) position' places' levels' words' replaced'
-  search-found moved moving full l is-open free {levels' = levels'} d e f g made = rw (d, e, f, g) record {
+  search-found affected affecting-are full l is-open free {levels' = levels'} d e f g made = rw (d, e, f, g) record {
     ready = (
       omega (arith, at .within, at .from .room),
       length-set position k c ∙ at .from .whole,
@@ -226,8 +226,8 @@ module _ {n : ℕ} {rows xs : List ℕ} {size : ℕ} {position places levels wor
       length-set words (writtenWord rows c) _ ∙ at .wide,
       record {
         placed = stands-placed;
-        levelled = levels-more (levels-less (at .from .levelled) k (at .within)) moved moving (at .from .few) c l inside
-            (subst (λ (ws : List ℕ). Level rows moved ws c k levels levels') (f ∙ ap (λ (ws : List ℕ). wordsWith rows ws c) (at .remembers .now-are)) made);
+        levelled = levels-more (levels-less (at .from .levelled) k (at .within)) affected affecting-are (at .from .few) c l inside
+            (subst (λ (ws : List ℕ). Level rows affected ws c k levels levels') (f ∙ ap (λ (ws : List ℕ). wordsWith rows ws c) (at .remembers .now-are)) made);
         remembered = remembered-more (at .remembers) c (at .from .whole) full (omega (arith, at .within, at .from .few, at .from .room));
       },
     );
@@ -236,7 +236,7 @@ module _ {n : ℕ} {rows xs : List ℕ} {size : ℕ} {position places levels wor
         (gap-next p n xs (take k position ++ c ∷ []) (
           and-parts (not (member (take k position) c)) (p (take k position ++ (c ∷ [])))
               (tells c l p tested closed passes ∙ ap₂ (λ (a b : Bool). a && not b) is-open free) .1,
-          subst (λ (ys : List ℕ). distinct n [] ys ≡ true) (one-more position k c inside) (stands-placed .apart),
+          subst (λ (ys : List ℕ). distinct n [] ys ≡ true) (one-more position k c inside) (stands-placed .different),
         )
         (at .later) (at .gap p tested closed passes));
   }

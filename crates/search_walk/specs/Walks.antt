@@ -12,7 +12,7 @@ use Rattle.relation_places.specs.Places.{Placed}
 use Rattle.search_sets.specs.Set.{setAt}
 use Rattle.search_admit.specs.Rows.{writtenWord, wordsWith, wordsAfter}
 use Rattle.search_admit.specs.Fits.{dueAfter, dueOf, refused, enabled, Tested}
-use Rattle.search_enabled.specs.Moves.{enabledAfter}
+use Rattle.search_enabled.specs.Affects.{enabledAfter}
 use Rattle.search_walk.specs.declared.WalkAnswer.{WalkAnswer}
 use Rattle.search_walk.specs.declared.WalkAnswer.the-variants.{Next, End}
 
@@ -42,20 +42,20 @@ pub record Levels (n : ℕ) (rows position levels : List ℕ) (size : ℕ) : Typ
   pub due : (j a : ℕ) → j ≤ size → a < n → opens levels j a ≡ (dueOf rows (take j position) (low levels j) (high levels j) a && enables levels j a)
 
 -- level k + 1 is made from level k by operation x, and the levels up to k are as they were
-pub record Level (rows moved words : List ℕ) (x k : ℕ) (levels levels' : List ℕ) : Type 0 where
+pub record Level (rows affected words : List ℕ) (x k : ℕ) (levels levels' : List ℕ) : Type 0 where
   pub below : (i : ℕ) → i < 6 * (k + 1) → getD levels' i 0 ≡ getD levels i 0
   pub stands-more : (a : ℕ) → stands levels' (k + 1) a ≡ (stands levels k a || eqb a x)
   pub enables-more : (a : ℕ) → a < 128
       → enables levels' (k + 1) a
-      ≡ enabledAfter rows moved words (getD levels (2 * (3 * k + 1)) 0) (getD levels (2 * (3 * k + 1) + 1) 0) (low levels' (k + 1)) (high levels' (k + 1)) x a
+      ≡ enabledAfter rows affected words (getD levels (2 * (3 * k + 1)) 0) (getD levels (2 * (3 * k + 1) + 1) 0) (low levels' (k + 1)) (high levels' (k + 1)) x a
   pub opens-more : (a : ℕ) → opens levels' (k + 1) a ≡ (dueAfter rows x (low levels' (k + 1)) (high levels' (k + 1)) a && enables levels' (k + 1) a)
 
 -- Operation x as the entry at k, where it is not refused; else all as it was.
-pub record Entered (rows moved : List ℕ) (x k : ℕ) (r : Bool) (position places levels words replaced position' places' levels' words' replaced' : List ℕ) : Type 0 where
+pub record Entered (rows affected : List ℕ) (x k : ℕ) (r : Bool) (position places levels words replaced position' places' levels' words' replaced' : List ℕ) : Type 0 where
   pub told : r ≡ not (refused rows places (low levels k) (high levels k) x)
   pub made : r ≡ true
       → (position' ≡ set position k x) × (places' ≡ set places x k) × (words' ≡ wordsWith rows words x)
-      × (replaced' ≡ set replaced k (getD words (writtenWord rows x) 0)) × Level rows moved words' x k levels levels' × (length replaced ≡ 128)
+      × (replaced' ≡ set replaced k (getD words (writtenWord rows x) 0)) × Level rows affected words' x k levels levels' × (length replaced ≡ 128)
   pub left : r ≡ false → (position' ≡ position) × (places' ≡ places) × (levels' ≡ levels) × (words' ≡ words) × (replaced' ≡ replaced)
 
 -- the words are those after the first `size` entries, and for each of these the word that it wrote over is kept

@@ -4,7 +4,7 @@ ghost use Prim.Native.Nat.{_<_, _≤_};
 ghost use lib.ListN as ListN;
 ghost use lib.ListN.{length, getD, set, take};
 ghost use Rattle.search_admit.specs.Rows.{writtenWord, wordsWith};
-ghost use Rattle.search_enabled.specs.Moves.{Moving};
+ghost use Rattle.search_enabled.specs.Affects.{Affecting};
 ghost use Rattle.search_walk.specs.Walks.{Level, Entered, Kept, Walked};
 use record_decoded::types::wide;
 use relation_places::ABSENT;
@@ -37,15 +37,15 @@ fn add_level(
     k: usize,
     words: &[u64; 128],
     rows: &[u64; 2304],
-    moved: &[u64; 256],
+    affected: &[u64; 256],
     x: usize,
 )
     requires { ⌜ (k < 128) × (x < 128) × (ListN.length (now levels) ≡ 774) ⌝ }
-    ensures { λ _. ⌜ Level (now (rows .entry)) (now (moved .entry)) (now (words .entry)) x k (now (levels .entry)) (now (levels .exit)) ⌝ }
+    ensures { λ _. ⌜ Level (now (rows .entry)) (now (affected .entry)) (now (words .entry)) x k (now (levels .entry)) (now (levels .exit)) ⌝ }
 {
     let stand = insert(at(levels, SETS * k), x);
     let before = at(levels, SETS * k + ENABLED);
-    let enabled = enabled_after(rows, moved, words, before, stand, x);
+    let enabled = enabled_after(rows, affected, words, before, stand, x);
     let open = open_after(rows, enabled, stand, x);
     let level = SETS * (k + 1);
     put(levels, level, stand);
@@ -62,16 +62,16 @@ fn add_entry(
     words: &mut [u64; 128],
     replaced: &mut [u64],
     rows: &[u64; 2304],
-    moved: &[u64; 256],
+    affected: &[u64; 256],
     x: usize,
 )
     requires { ⌜ (k < 128) × (x < 128) × (ListN.length (now position) ≡ 128) × (ListN.length (now places) ≡ 128) × (ListN.length (now levels) ≡ 774) × (ListN.length (now words) ≡ 128) × (ListN.length (now replaced) ≡ 128) ⌝ }
-    ensures { λ r. ⌜ (now (position .exit) ≡ set (now (position .entry)) k x) × (now (places .exit) ≡ set (now (places .entry)) x k) × (now (words .exit) ≡ wordsWith (now (rows .entry)) (now (words .entry)) x) × (now (replaced .exit) ≡ set (now (replaced .entry)) k (getD (now (words .entry)) (writtenWord (now (rows .entry)) x) 0)) × Level (now (rows .entry)) (now (moved .entry)) (now (words .exit)) x k (now (levels .entry)) (now (levels .exit)) ⌝ }
+    ensures { λ r. ⌜ (now (position .exit) ≡ set (now (position .entry)) k x) × (now (places .exit) ≡ set (now (places .entry)) x k) × (now (words .exit) ≡ wordsWith (now (rows .entry)) (now (words .entry)) x) × (now (replaced .exit) ≡ set (now (replaced .entry)) k (getD (now (words .entry)) (writtenWord (now (rows .entry)) x) 0)) × Level (now (rows .entry)) (now (affected .entry)) (now (words .exit)) x k (now (levels .entry)) (now (levels .exit)) ⌝ }
 {
     position[k] = x as u8;
     places[x] = k as u8;
     replaced[k] = write(rows, words, x);
-    add_level(levels, k, words, rows, moved, x);
+    add_level(levels, k, words, rows, affected, x);
 }
 
 // Operation x, which is open at level k, as the entry at k, if it is not refused.
@@ -83,16 +83,26 @@ pub fn enter(
     words: &mut [u64; 128],
     replaced: &mut [u64; 128],
     rows: &[u64; 2304],
-    moved: &[u64; 256],
+    affected: &[u64; 256],
     x: usize,
 ) -> bool
     requires { ⌜ (k < 128) × (x < 128) × (ListN.length (now position) ≡ 128) × (ListN.length (now places) ≡ 128) × (ListN.length (now words) ≡ 128) ⌝ }
-    ensures { λ r. ⌜ Entered (now (rows .entry)) (now (moved .entry)) x k r (now (position .entry)) (now (places .entry)) (now (levels .entry)) (now (words .entry)) (now (replaced .entry)) (now (position .exit)) (now (places .exit)) (now (levels .exit)) (now (words .exit)) (now (replaced .exit)) ⌝ }
+    ensures { λ r. ⌜ Entered (now (rows .entry)) (now (affected .entry)) x k r (now (position .entry)) (now (places .entry)) (now (levels .entry)) (now (words .entry)) (now (replaced .entry)) (now (position .exit)) (now (places .exit)) (now (levels .exit)) (now (words .exit)) (now (replaced .exit)) ⌝ }
 {
     if is_refused(rows, places, at(levels, SETS * k), x) {
         return false;
     }
-    add_entry(position, k, places, levels, words, replaced, rows, moved, x);
+    add_entry(
+        position,
+        k,
+        places,
+        levels,
+        words,
+        replaced,
+        rows,
+        affected,
+        x,
+    );
     true
 }
 
@@ -125,9 +135,9 @@ pub fn walk(
     words: &mut [u64; 128],
     replaced: &mut [u64; 128],
     rows: &[u64; 2304],
-    moved: &[u64; 256],
+    affected: &[u64; 256],
 ) -> WalkAnswer
-    requires { ⌜ (n ≤ 128) × (length < n) × Kept n (now rows) (now position) (now places) (now levels) (now words) (now replaced) length × Moving n (now rows) (now moved) ⌝ }
+    requires { ⌜ (n ≤ 128) × (length < n) × Kept n (now rows) (now position) (now places) (now levels) (now words) (now replaced) length × Affecting n (now rows) (now affected) ⌝ }
     requires { ⌜ (ListN.length (now position) ≡ 128) × (ListN.length (now places) ≡ 128) × (ListN.length (now words) ≡ 128) ⌝ }
     ensures { λ r. ⌜ Walked n (now (rows .entry)) (take length (now (position .entry))) r (now (position .exit)) (now (places .exit)) (now (levels .exit)) (now (words .exit)) (now (replaced .exit)) ⌝ }
 {
@@ -138,7 +148,17 @@ pub fn walk(
     while turn < n * n {
         let x = first(candidates, c);
         if x < n {
-            if enter(position, k, places, levels, words, replaced, rows, moved, x) {
+            if enter(
+                position,
+                k,
+                places,
+                levels,
+                words,
+                replaced,
+                rows,
+                affected,
+                x,
+            ) {
                 return WalkAnswer::Next(k + 1);
             }
             c = x + 1;

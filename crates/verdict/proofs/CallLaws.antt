@@ -8,7 +8,7 @@ use lib.ListN as ListN
 use lib.ListN.{drop, replicate, length-append}
 use Rattle.model.specs.Search.{Verdict, allowed, forbidden, unfinished}
 use Rattle.model.specs.Calls as calls
-use Rattle.model.specs.Calls.{Answer, says, refuses, answerOf, searching, searchReply, searchCall}
+use Rattle.model.specs.Calls.{Answer, says, refuses, searching, searchReply, searchCall}
 use Rattle.model.specs.Verdict.{callAllowance, callLimit, isUnfinished, callOnce, callOn, notCalled}
 use Rattle.search_call.specs.Calls.{answerMeant, replyOf}
 use Rattle.search_call.specs.declared.call.SearchReply.{SearchReply}
@@ -64,7 +64,7 @@ module _ {bytes : List ℕ} {made steps length : ℕ} {buffer : List ℕ} (inv :
         arith,
         inv .long,
         ap (λ (q : calls.SearchReply). q .length) same,
-        reply-short length buffer (answerOf (searching buffer length callAllowance bytes)) (omega (arith, inv .short, inv .long)) (ap (λ (q : calls.SearchReply). ListN.length (q .buffer)) (sym same) ∙ kept),
+        reply-short length buffer (searching bytes buffer length callAllowance) (omega (arith, inv .short, inv .long)) (ap (λ (q : calls.SearchReply). ListN.length (q .buffer)) (sym same) ∙ kept),
       )
 
   pub calls-turn : made < 100 → r .steps < 2 ^ 32 → isUnfinished (answerMeant (r .answer)) ≡ true → Calling bytes (made + 1) (steps + r .steps) (r .length) left

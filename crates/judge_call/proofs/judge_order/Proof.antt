@@ -3,9 +3,10 @@ use native.Mathlib.Omega.{arith}
 use mathlib.Core.Path.{sym, ap, _∙_}
 use borrow.Author.Tests.{not-true, not-false}
 use Rattle.record_decoded.specs.Decoded.{executionOf}
+use Rattle.record_decoded.proofs.Counts.{count-is}
 use Rattle.judge_rules.specs.Lowest.{lowestMeant}
-use Rattle.relation_links.proofs.CompiledLaws.{few-processors, few-lines, few-instructions, few-pairs, few-operations, laid-out, compiled}
-use Rattle.judge_call.proofs.JudgeLaws.{count-is, judged-16, judged-17, judged-rules}
+use Rattle.relation_links.proofs.CompiledLaws.{few-processors, few-lines, few-instructions, few-pairs, few-operations, consecutive-here, compiled}
+use Rattle.judge_call.proofs.JudgeLaws.{judged-16, judged-17, judged-rules}
 use borrow.Author.Needs.{needs}
 use Rattle.judge_call.proofs.judge_order.Statement.{statement}
 use Rattle.judge_call.proofs.judge_order.Tie as tie
@@ -14,7 +15,7 @@ operations-of-requires : tie.Need-operations-of-requires
 operations-of-requires c κs =
     let x = c .before .args .x in
     let a = c .before .pre in
-    ((few-processors x a, few-instructions x a, few-operations x a), laid-out x a)
+    ((few-processors x a, few-instructions x a, few-operations x a), consecutive-here x a)
 
 returns : tie.Need-returns
 returns c =

@@ -1,6 +1,6 @@
 -- The elements of the array, compared.
 use mathlib.Core.Path.{refl}
-use Rattle.judge_sights.specs.Sights.{ownOf}
+use Rattle.judge_sights.specs.Sights.{sameProcessor}
 use Rattle.record_decoded.specs.Decoded.{instructionAt}
 use borrow.Author.Needs.{needs}
 use Rattle.judge_sights.proofs.own_of.Statement.{statement}
@@ -13,7 +13,7 @@ array-read-result-2 : tie.Need-array-read-result-2
 array-read-result-2 c = search needs
 
 returns : tie.Need-returns
-unfolding ownOf instructionAt
+unfolding sameProcessor instructionAt
 returns c = refl
 
 pub own-of-spec : {M : Type 1} → statement M

@@ -1,8 +1,10 @@
 -- The reader refuses, or the table is made of the execution that it read.
 use mathlib.Core.Path.{ap, _∙_}
+use Rattle.model.proofs.Accepted.{read-accepted}
+use Rattle.record_decoded.specs.Decoded.{executionOf}
 use Rattle.record_reader.specs.declared.reader.Answer.{Answer}
 use Rattle.record_reader.specs.Readings.{answerMeant}
-use Rattle.relation_chain_table.proofs.TableLaws.{call-refused, call-accepted, call-asks}
+use Rattle.relation_chain_table.proofs.TableLaws.{call-refused, call-accepted}
 use borrow.Author.Needs.{needs}
 use Rattle.relation_chain_table.proofs.chain_table.Statement.{statement}
 use Rattle.relation_chain_table.proofs.chain_table.Tie as tie
@@ -18,7 +20,7 @@ enum-told c = search needs
 
 write-chains-requires : tie.Need-write-chains-requires
 write-chains-requires c κs =
-    call-accepted (c .before .before .before .before .before .before .before .args .bytes .now) (c .before .before .before .before .before .before .before .args .table .now) (c .before .before .before .before .read .ensures ∙ ap (λ (r : Answer). answerMeant r (c .before .before .before .before .read .result .execution)) (c .before .enum-told .given .1))
+    read-accepted (c .before .before .before .before .before .before .before .args .bytes .now) (executionOf (c .before .before .before .before .read .result .execution)) (c .before .before .before .before .read .ensures ∙ ap (λ (r : Answer). answerMeant r (c .before .before .before .before .read .result .execution)) (c .before .enum-told .given .1))
 
 returns : tie.Need-returns
 returns c =
@@ -30,7 +32,7 @@ same-length c = search needs
 returns-2 : tie.Need-returns-2
 returns-2 c =
     c .before .before .write-chains .ensures
-    ∙ call-asks (c .before .before .before .before .before .before .before .before .before .before .args .bytes .now) (c .before .before .before .before .before .before .before .before .before .before .args .table .now) (c .before .before .before .before .before .before .before .read .ensures ∙ ap (λ (r : Answer). answerMeant r (c .before .before .before .before .before .before .before .read .result .execution)) (c .before .before .before .before .enum-told .given .1))
+    ∙ call-accepted (c .before .before .before .before .before .before .before .before .before .before .args .bytes .now) (c .before .before .before .before .before .before .before .before .before .before .args .table .now) (c .before .before .before .before .before .before .before .read .ensures ∙ ap (λ (r : Answer). answerMeant r (c .before .before .before .before .before .before .before .read .result .execution)) (c .before .before .before .before .enum-told .given .1))
 
 pub chain-table-spec : {M : Type 1} → statement M
 chain-table-spec =

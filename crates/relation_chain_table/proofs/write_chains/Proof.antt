@@ -1,6 +1,6 @@
 -- The tables of the execution, question 22, the square of links, its closure, and the rows.
 use native.Mathlib.Omega.{arith}
-use Rattle.relation_links.proofs.CompiledLaws.{few-processors, few-lines, few-instructions, few-pairs, few-operations, laid-out, compiled}
+use Rattle.relation_links.proofs.CompiledLaws.{few-processors, few-lines, few-instructions, few-pairs, few-operations, consecutive-here, compiled}
 use Rattle.relation_chain_table.proofs.TableLaws.{few, square-few, refuses-22, owners-few, says-marks}
 use borrow.Author.Needs.{needs}
 use Rattle.relation_chain_table.proofs.write_chains.Statement.{statement}
@@ -10,7 +10,7 @@ operations-of-requires : tie.Need-operations-of-requires
 operations-of-requires c κs =
     let x = c .before .before .args .x in
     let a = c .before .before .pre in
-    ((few-processors x a, few-instructions x a, few-operations x a), laid-out x a)
+    ((few-processors x a, few-instructions x a, few-operations x a), consecutive-here x a)
 
 mul-if1 : tie.Need-mul-if1
 mul-if1 c = omega (arith, square-few (c .before .before .before .args .x) (c .before .before .before .pre) (c .operations-of .ensures))

@@ -74,7 +74,7 @@ loop-again c = (
 returns-3 : tie.Need-returns-3 Inv-loop μ-loop
 returns-3 c =
     let stands = placing-done (c .before .loop .inv .1) (c .loop-test .left) in
-    record { told = sym (stands .apart); long = c .before .loop .inv .1 .long; places = λ h. stands }
+    record { told = sym (stands .different); long = c .before .loop .inv .1 .long; places = λ h. stands }
 
 pub place-all-spec : {M : Type 1} → statement M
 place-all-spec =

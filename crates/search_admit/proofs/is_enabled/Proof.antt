@@ -3,7 +3,7 @@ use mathlib.Core.Path.{sym, ap, _∙_}
 use mathlib.Core.Bool.{Bool, _&&_}
 use borrow.Author.Tests.{not-true, not-false}
 use Rattle.base.proofs.Bools.{kept}
-use Rattle.search_admit.specs.Fits.{sees, enabled}
+use Rattle.search_admit.specs.Fits.{readsRecorded, enabled}
 use Rattle.search_admit.proofs.TestLaws.{ready-by}
 use borrow.Author.Needs.{needs}
 use Rattle.search_admit.proofs.is_enabled.Statement.{statement}
@@ -19,7 +19,7 @@ returns : tie.Need-returns
 unfolding enabled
 returns c =
     let a = c .before .before .before .args in
-    ap (λ (b : Bool). b && sees (a .rows .now) (a .stand .lo) (a .stand .hi) (a .words .now) (a .x))
+    ap (λ (b : Bool). b && readsRecorded (a .rows .now) (a .stand .lo) (a .stand .hi) (a .words .now) (a .x))
     (sym (not-true _ (c .if1 .taken)) ∙ ready-by (a .rows .now) (a .stand .lo) (a .stand .hi) (a .x) (c .before .before .set-of .ensures .0) (c .before .before .set-of .ensures .1) (c .before .subset .ensures))
 
 reads-right-requires : tie.Need-reads-right-requires

@@ -1,6 +1,6 @@
 -- The predecessors first, then what is read.
-use Rattle.search_admit.proofs.TestLaws.{ready-by, sees-is, local-none}
-use Rattle.search_admit.specs.Fits.{sees, enabled}
+use Rattle.search_admit.proofs.TestLaws.{ready-by, reads-is, local-none}
+use Rattle.search_admit.specs.Fits.{readsRecorded, enabled}
 use Rattle.base.proofs.Bools.{kept}
 use borrow.Author.Tests.{not-true, not-false}
 use lib.ListN.{getD}
@@ -21,7 +21,7 @@ returns : tie.Need-returns
 unfolding enabled
 returns c =
     let a = c .before .before .before .args in
-    ap (λ (b : Bool). b && sees (a .rows .now) 0 0 (a .words .now) (a .x))
+    ap (λ (b : Bool). b && readsRecorded (a .rows .now) 0 0 (a .words .now) (a .x))
     (sym (not-true _ (c .if1 .taken)) ∙ ready-by (a .rows .now) 0 0 (a .x) (c .before .before .set-of .ensures .0) (c .before .before .set-of .ensures .1) (c .before .subset .ensures))
 
 field-of-requires : tie.Need-field-of-requires
@@ -50,7 +50,7 @@ unfolding enabled
 returns-2 c =
     let a = c .before .before .before .before .before .before .before .before .before .before .args in
     kept (ready-by (a .rows .now) 0 0 (a .x) (c .before .before .before .before .before .before .before .before .before .set-of .ensures .0) (c .before .before .before .before .before .before .before .before .before .set-of .ensures .1) (c .before .before .before .before .before .before .before .before .subset .ensures)) (not-false _ (c .before .before .before .before .before .before .before .if1 .left))
-    (sees-is (a .rows .now) (a .words .now) 0 0 (a .x) 0 (c .agrees .ensures)
+    (reads-is (a .rows .now) (a .words .now) 0 0 (a .x) 0 (c .agrees .ensures)
     (c .before .before .before .before .before .word-at .ensures ∙ ap (λ (v : ℕ). getD (a .words .now) (v % 128) 0) (c .before .before .before .before .before .before .field-of .ensures))
     (c .before .before .before .word-at2 .ensures ∙ ap (λ (v : ℕ). getD (a .words .now) (v % 128) 0) (c .before .before .before .before .field-of2 .ensures))
     (local-none (a .rows .now) (a .x)) (c .before .field-of4 .ensures) (c .before .before .field-of3 .ensures))

@@ -12,13 +12,13 @@ use borrow.Author.Needs.{needs}
 use Rattle.search_constraints.proofs.with_linked.Statement.{statement}
 use Rattle.search_constraints.proofs.with_linked.Tie as tie
 
-is-apart-requires : tie.Need-is-apart-requires
-is-apart-requires c κs = search needs
+is-unlinked-requires : tie.Need-is-unlinked-requires
+is-unlinked-requires c κs = search needs
 
 returns : tie.Need-returns
 returns c = λ a l.
     let g = c .before .before .args in
-    nothing-more (holds (g .set .lo) (g .set .hi) a) (no-links (g .marks) (g .processor) (g .first) (g .processors) (g .role) a (kindOf (g .kind)) (c .before .is-apart .ensures (c .if1 .taken)))
+    nothing-more (holds (g .set .lo) (g .set .hi) a) (no-links (g .marks) (g .processor) (g .first) (g .processors) (g .role) a (kindOf (g .kind)) (c .before .is-unlinked .ensures (c .if1 .taken)))
 
 kind-of-requires : tie.Need-kind-of-requires
 kind-of-requires c κs = search needs
@@ -63,7 +63,7 @@ pub with-linked-spec : {M : Type 1} → statement M
 with-linked-spec =
     tie.close
     (tie.spec
-    is-apart-requires
+    is-unlinked-requires
     returns
     kind-of-requires
     role-of-requires

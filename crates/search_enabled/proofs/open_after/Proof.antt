@@ -1,5 +1,5 @@
 -- All partners of x stand, or some do not.
-use Rattle.search_enabled.proofs.MoveLaws.{open-all, open-some}
+use Rattle.search_enabled.proofs.AffectLaws.{open-all, open-some}
 use borrow.Author.Needs.{needs}
 use Rattle.search_enabled.proofs.open_after.Statement.{statement}
 use Rattle.search_enabled.proofs.open_after.Tie as tie

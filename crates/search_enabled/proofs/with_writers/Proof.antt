@@ -3,13 +3,13 @@ use Prim.Native.Nat.{_-_, _≤_}
 use native.Mathlib.Omega.{arith}
 use Rattle.search_sets.specs.Set.{holds}
 use Rattle.search_sets.proofs.Members.{Grown, grown-starts, grown-on, grown-ends}
-use Rattle.search_enabled.specs.Moves.{writesTo}
+use Rattle.search_enabled.specs.Affects.{writesWordOf}
 use borrow.Author.Needs.{needs}
 use Rattle.search_enabled.proofs.with_writers.Statement.{statement}
 use Rattle.search_enabled.proofs.with_writers.Tie as tie
 
 abbrev Inv-loop : tie.InvT-loop
-Inv-loop n rows y all₀ a₀ all a = (a ≤ n) × Grown (holds (all₀ .lo) (all₀ .hi)) (λ k. writesTo rows k y) (holds (all .lo) (all .hi)) a
+Inv-loop n rows y all₀ a₀ all a = (a ≤ n) × Grown (holds (all₀ .lo) (all₀ .hi)) (λ k. writesWordOf rows k y) (holds (all .lo) (all .hi)) a
 
 abbrev μ-loop : tie.MeasureT-loop
 μ-loop n rows y all₀ a₀ all a = n - a

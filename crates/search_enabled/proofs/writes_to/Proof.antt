@@ -1,5 +1,5 @@
 -- The word that is visible first, then the own one.
-use Rattle.search_enabled.specs.Moves.{writesTo}
+use Rattle.search_enabled.specs.Affects.{writesWordOf}
 use Rattle.search_admit.specs.Rows.{field}
 use borrow.Author.Tests.{eq-eqb, ne-eqb}
 use lib.Dec.{eqb}
@@ -17,7 +17,7 @@ field-of-requires-2 : tie.Need-field-of-requires-2
 field-of-requires-2 c κs = search needs
 
 returns : tie.Need-returns
-unfolding writesTo
+unfolding writesWordOf
 returns c =
     let a = c .before .before .before .args in
     let w = eqb (field (a .rows .now) 10 (a .a) % 128) (field (a .rows .now) 14 (a .y) % 128) in
@@ -28,7 +28,7 @@ field-of-requires-3 : tie.Need-field-of-requires-3
 field-of-requires-3 c κs = search needs
 
 returns-2 : tie.Need-returns-2
-unfolding writesTo
+unfolding writesWordOf
 returns-2 c =
     let a = c .before .before .before .before .args in
     ap₂ (λ (u v : ℕ). eqb (u % 128) (v % 128)) (c .before .before .before .field-of .ensures) (c .field-of3 .ensures)

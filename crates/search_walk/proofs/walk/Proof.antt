@@ -11,11 +11,11 @@ use Rattle.search_walk.proofs.walk.Statement.{statement}
 use Rattle.search_walk.proofs.walk.Tie as tie
 
 abbrev Inv-loop : tie.InvT-loop
-Inv-loop n position₀ length places₀ levels₀ words₀ replaced₀ rows moved k₀ c₀ candidates₀ turn₀ position places levels words replaced k c candidates turn =
+Inv-loop n position₀ length places₀ levels₀ words₀ replaced₀ rows affected k₀ c₀ candidates₀ turn₀ position places levels words replaced k c candidates turn =
     Search n rows (take length position₀) length position places levels words replaced (candidates .lo) (candidates .hi) k c turn
 
 abbrev μ-loop : tie.MeasureT-loop
-μ-loop n position₀ length places₀ levels₀ words₀ replaced₀ rows moved k₀ c₀ candidates₀ turn₀ position places levels words replaced k c candidates turn =
+μ-loop n position₀ length places₀ levels₀ words₀ replaced₀ rows affected k₀ c₀ candidates₀ turn₀ position places levels words replaced k c candidates turn =
     n * n - turn
 
 mul-at : tie.Need-mul-at Inv-loop μ-loop
@@ -56,7 +56,7 @@ returns c =
     let g = c .before .before .before .before .before .before .before .before .before .before .before .before .before .before .args in
     let t = c .before .enter .ensures in
     let e = t .made (c .if2 .taken) in
-    search-found (search-to (at .inv) (c .before .before .before .before .before .before .before .before .first .result) (low .onward) (omega (arith, c .before .before .before .before .before .before .before .if1 .taken)) (low .none)) (g .moved .now) (c .before .before .before .before .before .before .before .before .before .before .before .before .before .before .pre .0 .3) (e .5) (c .before .before .before .before .before .before .before .if1 .taken) (low .here (omega (arith, at .inv .from .few, c .before .before .before .before .before .before .before .if1 .taken)))
+    search-found (search-to (at .inv) (c .before .before .before .before .before .before .before .before .first .result) (low .onward) (omega (arith, c .before .before .before .before .before .before .before .if1 .taken)) (low .none)) (g .affected .now) (c .before .before .before .before .before .before .before .before .before .before .before .before .before .before .pre .0 .3) (e .5) (c .before .before .before .before .before .before .before .if1 .taken) (low .here (omega (arith, at .inv .from .few, c .before .before .before .before .before .before .before .if1 .taken)))
     (not-true _ (sym (t .told) ∙ c .if2 .taken))
     (e .0) (e .1) (e .2) (e .3) (e .4)
 

@@ -3,7 +3,7 @@ use mathlib.Core.Path.{refl, sym, ap, ap₂, _∙_}
 use mathlib.Core.Bool.{Bool, _&&_}
 use borrow.Author.Tests.{not-true}
 use Rattle.record_decoded.specs.Kinds.{meant, attributeMeant}
-use Rattle.relation_marks.proofs.BetweenLaws.{put-together, apart-together}
+use Rattle.relation_marks.proofs.BetweenLaws.{put-together, unrelated-together}
 use Rattle.relation_marks.proofs.MarkLaws.{mark-more}
 use borrow.Author.Needs.{needs}
 use Rattle.relation_marks.proofs.between.marks_by.Statement.{statement}
@@ -15,14 +15,14 @@ memory-marks-requires c κs = search needs
 either-requires : tie.Need-either-requires
 either-requires c κs = search needs
 
-apart-marks-requires : tie.Need-apart-marks-requires
-apart-marks-requires c κs = search needs
+unrelated-marks-requires : tie.Need-unrelated-marks-requires
+unrelated-marks-requires c κs = search needs
 
 returns : tie.Need-returns
 returns c =
     let g = c .before .before .before .before .args in
-    apart-together (g .same) (g .own) (g .earlier) (g .overlaps) (g .given) (meant (g .first)) (meant (g .second)) (attributeMeant (g .of-first)) (attributeMeant (g .of-second))
-    (sym (c .before .before .either .ensures) ∙ not-true (c .before .before .either .result) (c .before .if1 .taken)) (c .apart-marks .ensures) (c .before .before .before .memory-marks .ensures .0)
+    unrelated-together (g .same) (g .own) (g .earlier) (g .overlaps) (g .given) (meant (g .first)) (meant (g .second)) (attributeMeant (g .of-first)) (attributeMeant (g .of-second))
+    (sym (c .before .before .either .ensures) ∙ not-true (c .before .before .either .result) (c .before .if1 .taken)) (c .unrelated-marks .ensures) (c .before .before .before .memory-marks .ensures .0)
 
 is-uc-requires : tie.Need-is-uc-requires
 is-uc-requires c κs = search needs
@@ -71,7 +71,7 @@ marks-by-spec =
     (tie.spec
     memory-marks-requires
     either-requires
-    apart-marks-requires
+    unrelated-marks-requires
     returns
     is-uc-requires
     is-uc-requires-2

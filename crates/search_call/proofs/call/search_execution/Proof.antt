@@ -5,8 +5,9 @@ use lib.Seq.{length-take-le}
 use borrow.Author.Tests.{not-true, not-false}
 use Rattle.model.specs.Calls.{searchReply}
 use Rattle.record_decoded.specs.Decoded.{executionOf}
-use Rattle.relation_links.proofs.CompiledLaws.{few-processors, few-lines, few-instructions, few-pairs, few-operations, laid-out, compiled}
-use Rattle.search_call.proofs.CallLaws.{count-is, refused-reply, searched-18, searched-19, searched-20, searched-on}
+use Rattle.record_decoded.proofs.Counts.{count-is}
+use Rattle.relation_links.proofs.CompiledLaws.{few-processors, few-lines, few-instructions, few-pairs, few-operations, consecutive-here, compiled}
+use Rattle.search_call.proofs.CallLaws.{refused-reply, searched-18, searched-19, searched-20, searched-on}
 use borrow.Author.Needs.{needs}
 use Rattle.search_call.proofs.call.search_execution.Statement.{statement}
 use Rattle.search_call.proofs.call.search_execution.Tie as tie
@@ -15,7 +16,7 @@ operations-of-requires : tie.Need-operations-of-requires
 operations-of-requires c κs =
     let x = c .before .args .x in
     let a = c .before .pre in
-    ((few-processors x a, few-instructions x a, few-operations x a), laid-out x a)
+    ((few-processors x a, few-instructions x a, few-operations x a), consecutive-here x a)
 
 refused-requires : tie.Need-refused-requires
 refused-requires c κs = search needs

@@ -11,7 +11,7 @@ use Rattle.model.specs.Rules.{rules, keeps}
 use Rattle.model.specs.Calls.{searchReply}
 use Rattle.record_decoded.specs.Decoded.{executionOf}
 use Rattle.record_decoded.specs.Positions.{positionOf}
-use Rattle.search_call.proofs.CallLaws.{consistent-closed, empty-keeps, driven-reply, refused-reply, checked-21, checked-on, tested-keeps, keeps-is}
+use Rattle.search_call.proofs.CallLaws.{consistent-closed, empty-keeps, outcome-reply, refused-reply, searched-21, searched-from, tested-keeps, keeps-is}
 use borrow.Author.Needs.{needs}
 use Rattle.search_call.proofs.call.search_on.Statement.{statement}
 use Rattle.search_call.proofs.call.search_on.Tie as tie
@@ -27,18 +27,18 @@ saved-position-requires c κs =
       (let z : a .saved ≤ length (a .buffer .now) = omega (arith, pre .1 .0, pre .1 .1) in z),
     )
 
-moved-by-requires : tie.Need-moved-by-requires
-moved-by-requires c κs = let pre = c .before .before .before .before .before .pre in omega (arith, pre .0 .1 .tabled .counts, pre .0 .0 .operations-few)
+affected-by-requires : tie.Need-affected-by-requires
+affected-by-requires c κs = let pre = c .before .before .before .before .before .pre in omega (arith, pre .0 .1 .tabled .counts, pre .0 .0 .operations-few)
 
-drive-requires : tie.Need-drive-requires
-drive-requires c κs =
+search-from-requires : tie.Need-search-from-requires
+search-from-requires c κs =
     let pre = c .before .before .before .before .before .before .before .before .pre in
     let p = c .before .before .before .before .saved-position .ensures in (
       omega (arith, pre .0 .1 .tabled .counts, pre .0 .0 .operations-few),
       omega (arith, p .1, pre .1 .0),
       ap (distinct (c .before .before .before .before .before .before .before .before .args .t .count) []) (p .0) ∙ pre .1 .2,
       p .2,
-      c .before .before .moved-by .ensures,
+      c .before .before .affected-by .ensures,
     )
 
 refused-requires : tie.Need-refused-requires
@@ -54,17 +54,17 @@ returns c =
     let e = executionOf (a .x) in
     let r = c .refused .ensures in
     refused-reply (a .buffer .now) (a .saved) (a .allowance) (c .refused .result) 21 (r .0) (r .1) (r .2)
-    ∙ ap (searchReply (a .saved) (a .buffer .now)) (checked-21 e (take (a .saved) (a .buffer .now)) (a .allowance)
+    ∙ ap (searchReply (a .saved) (a .buffer .now)) (searched-21 e (take (a .saved) (a .buffer .now)) (a .allowance)
     (keeps-is e (take (a .saved) (a .buffer .now)) ∙ ap (keeps (rules e)) (sym (c .before .before .before .before .before .before .before .before .saved-position .ensures .0))
-    ∙ sym (c .before .before .before .drive .ensures .told (keeps (rules e)) (tested-keeps (c .before .before .before .before .before .before .before .before .before .before .rows-of .ensures) (pre .0 .0) (a .t .count) (pre .0 .1 .tabled .counts)) (consistent-closed e) (empty-keeps e))
+    ∙ sym (c .before .before .before .search-from .ensures .told (keeps (rules e)) (tested-keeps (c .before .before .before .before .before .before .before .before .before .before .rows-of .ensures) (pre .0 .0) (a .t .count) (pre .0 .1 .tabled .counts)) (consistent-closed e) (empty-keeps e))
     ∙ not-true _ (c .before .if1 .taken)))
 
 write-position-requires : tie.Need-write-position-requires
 write-position-requires c κs =
     let pre = c .before .before .before .before .before .before .before .before .before .before .before .before .pre in
     let a = c .before .before .before .before .before .before .before .before .before .before .before .before .args in (
-      omega (arith, c .before .before .before .drive .ensures .bounded .short, pre .0 .1 .tabled .counts, pre .0 .0 .operations-few),
-      (let z : c .before .before .before .drive .result .position .length ≤ length (a .buffer .now) = omega (arith, c .before .before .before .drive .ensures .bounded .short, pre .1 .1) in z),
+      omega (arith, c .before .before .before .search-from .ensures .bounded .short, pre .0 .1 .tabled .counts, pre .0 .0 .operations-few),
+      (let z : c .before .before .before .search-from .result .position .length ≤ length (a .buffer .now) = omega (arith, c .before .before .before .search-from .ensures .bounded .short, pre .1 .1) in z),
     )
 
 answer-of-requires : tie.Need-answer-of-requires
@@ -79,15 +79,15 @@ returns-2 c =
     let pre = c .before .before .before .before .before .before .before .before .before .before .before .before .before .before .before .before .pre in
     let e = executionOf (a .x) in
     let p = c .before .before .before .before .before .before .before .before .before .before .before .before .saved-position .ensures in
-    let d = c .before .before .before .before .before .before .before .drive .ensures in
+    let d = c .before .before .before .before .before .before .before .search-from .ensures in
     let count = pre .0 .1 .tabled .counts in
     let table = tested-keeps (c .before .before .before .before .before .before .before .before .before .before .before .before .before .before .rows-of .ensures) (pre .0 .0) (a .t .count) count in
     let passes : keeps (rules e) (positionOf (c .before .before .before .before .before .before .before .before .before .before .before .before .saved-position .result)) ≡ true = sym (d .told (keeps (rules e)) table (consistent-closed e) (empty-keeps e)) ∙ not-false _ (c .before .before .before .before .before .if1 .left) in
-    driven-reply e (a .buffer .now) _ (a .saved) (a .allowance) (a .t .count) count (positionOf (c .before .before .before .before .before .before .before .before .before .before .before .before .saved-position .result)) (p .0) (c .before .before .before .before .before .before .before .drive .result)
+    outcome-reply e (a .buffer .now) _ (a .saved) (a .allowance) (a .t .count) count (positionOf (c .before .before .before .before .before .before .before .before .before .before .before .before .saved-position .result)) (p .0) (c .before .before .before .before .before .before .before .search-from .result)
     (d .comes (keeps (rules e)) table (consistent-closed e) passes)
     (omega (arith, d .bounded .short, d .bounded .whole, count, pre .0 .0 .operations-few)) (c .before .before .before .write-position .ensures)
-    (record { answer = c .answer-of .result; steps = c .before .before .before .before .before .before .before .drive .result .steps; length = c .before .before .before .before .before .before .before .drive .result .position .length }) (c .answer-of .ensures) refl refl
-    ∙ ap (searchReply (a .saved) (a .buffer .now)) (checked-on e (take (a .saved) (a .buffer .now)) (a .allowance) (keeps-is e (take (a .saved) (a .buffer .now)) ∙ ap (keeps (rules e)) (sym (p .0)) ∙ passes))
+    (record { answer = c .answer-of .result; steps = c .before .before .before .before .before .before .before .search-from .result .steps; length = c .before .before .before .before .before .before .before .search-from .result .position .length }) (c .answer-of .ensures) refl refl
+    ∙ ap (searchReply (a .saved) (a .buffer .now)) (searched-from e (take (a .saved) (a .buffer .now)) (a .allowance) (keeps-is e (take (a .saved) (a .buffer .now)) ∙ ap (keeps (rules e)) (sym (p .0)) ∙ passes))
 
 pub search-on-spec : {M : Type 1} → statement M
 search-on-spec =
@@ -95,8 +95,8 @@ search-on-spec =
     (tie.spec
     rows-of-requires
     saved-position-requires
-    moved-by-requires
-    drive-requires
+    affected-by-requires
+    search-from-requires
     refused-requires
     same-length
     returns

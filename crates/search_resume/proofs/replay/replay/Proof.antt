@@ -9,11 +9,11 @@ use Rattle.search_resume.proofs.replay.replay.Statement.{statement}
 use Rattle.search_resume.proofs.replay.replay.Tie as tie
 
 abbrev Inv-loop : tie.InvT-loop
-Inv-loop n entries₀ length places₀ levels₀ words₀ replaced₀ rows moved j₀ entries places levels words replaced j =
+Inv-loop n entries₀ length places₀ levels₀ words₀ replaced₀ rows affected j₀ entries places levels words replaced j =
     Replaying n rows length entries₀ entries places levels words replaced j
 
 abbrev μ-loop : tie.MeasureT-loop
-μ-loop n entries₀ length places₀ levels₀ words₀ replaced₀ rows moved j₀ entries places levels words replaced j =
+μ-loop n entries₀ length places₀ levels₀ words₀ replaced₀ rows affected j₀ entries places levels words replaced j =
     length - j
 
 loop-holds : tie.Need-loop-holds Inv-loop μ-loop
@@ -27,7 +27,7 @@ loop-holds c =
       whole = pre .1 .0;
       long = pre .1 .1;
       wide = pre .1 .2;
-      apart = pre .0 .2;
+      different = pre .0 .2;
       kept = pre .0 .3;
       passes = λ p tested closed empty. empty;
     }

@@ -4,19 +4,19 @@ use native.Mathlib.Omega.{arith}
 use mathlib.Core.Path.{ap}
 use lib.ListN.{getD}
 use Rattle.base.specs.Bits.{bit}
-use Rattle.search_rows.proofs.LineLaws.{Laid, laid-none, laid-more, laid}
+use Rattle.search_rows.proofs.LineLaws.{BytesIn, bytes-none, bytes-more, bytes-in}
 use borrow.Author.Needs.{needs}
 use Rattle.search_rows.proofs.line.bytes_from.Statement.{statement}
 use Rattle.search_rows.proofs.line.bytes_from.Tie as tie
 
 abbrev Inv-loop : tie.InvT-loop
-Inv-loop bytes at place size word₀ j₀ word j = Laid (λ i. bit (getD bytes (at + (i / 8 - place)) 0) (i % 8)) place size j word
+Inv-loop bytes at place size word₀ j₀ word j = BytesIn (λ i. bit (getD bytes (at + (i / 8 - place)) 0) (i % 8)) place size j word
 
 abbrev μ-loop : tie.MeasureT-loop
 μ-loop bytes at place size word₀ j₀ word j = size - j
 
 loop-holds : tie.Need-loop-holds Inv-loop μ-loop
-loop-holds c = laid-none
+loop-holds c = bytes-none
 
 add-with-byte : tie.Need-add-with-byte Inv-loop μ-loop
 add-with-byte c = search needs
@@ -39,11 +39,11 @@ loop-less c = omega (arith, c .before .before .loop-test .taken)
 loop-again : tie.Need-loop-again Inv-loop μ-loop
 loop-again c =
     let a = c .before .before .before .before .before .args in
-    laid-more (c .before .before .before .loop .inv) (c .before .before .loop-test .taken) (c .with-byte .result) (getD (a .bytes .now) (a .at + c .before .before .before .loop .j) 0) (c .with-byte .ensures)
+    bytes-more (c .before .before .before .loop .inv) (c .before .before .loop-test .taken) (c .with-byte .result) (getD (a .bytes .now) (a .at + c .before .before .before .loop .j) 0) (c .with-byte .ensures)
     (λ i s e. ap (λ (k : ℕ). bit (getD (a .bytes .now) (a .at + k) 0) (i % 8)) (omega arith))
 
 returns : tie.Need-returns Inv-loop μ-loop
-returns c = λ i s. laid (c .before .loop .inv) (c .loop-test .left) i s
+returns c = λ i s. bytes-in (c .before .loop .inv) (c .loop-test .left) i s
 
 pub bytes-from-spec : {M : Type 1} → statement M
 bytes-from-spec =

@@ -67,8 +67,8 @@ partners-at-requires c κs =
     let pre = c .before .before .before .before .before .before .before .before .before .before .before .before .before .pre in
     (c .before .before .before .before .before .before .before .before .wide16 .ensures .1, few-processors (c .before .before .before .before .before .before .before .before .before .before .before .before .before .args .x) (pre .1), partners-fit (pre .0) (pre .1) (c .before .before .before .before .before .before .before .before .before .before .before .before .before .args .o) (pre .2) (pre .3) (c .before .before .before .before .before .before .before .before .before .before .before .wide .result) (c .before .before .before .before .before .before .before .before .wide16 .result) (c .before .before .before .before .before .before .before .before .before .before .before .wide .ensures .0 ∙ ap (λ (own : List ℕ). getD own (c .before .before .before .before .before .before .before .before .before .before .before .before .before .args .o) 0) (pre .3 .owners-are)) (c .before .before .before .before .before .before .before .before .wide16 .ensures .0))
 
-rivals-at-requires : tie.Need-rivals-at-requires
-rivals-at-requires c κs = (few-instructions (c .before .before .before .before .before .before .before .before .before .before .before .before .before .before .args .x) (c .before .before .before .before .before .before .before .before .before .before .before .before .before .before .pre .1), owner-fits (c .before .before .before .before .before .before .before .before .before .before .before .before .before .before .pre .0) (c .before .before .before .before .before .before .before .before .before .before .before .before .before .before .pre .1) (c .before .before .before .before .before .before .before .before .before .before .before .before .before .before .args .o) (c .before .before .before .before .before .before .before .before .before .before .before .before .before .before .pre .2) (c .before .before .before .before .before .before .before .before .before .before .before .before .before .before .pre .3) (c .before .before .before .before .before .before .before .before .before .before .before .before .wide .result) (c .before .before .before .before .before .before .before .before .before .before .before .before .wide .ensures .0) .0)
+awaited-at-requires : tie.Need-awaited-at-requires
+awaited-at-requires c κs = (few-instructions (c .before .before .before .before .before .before .before .before .before .before .before .before .before .before .args .x) (c .before .before .before .before .before .before .before .before .before .before .before .before .before .before .pre .1), owner-fits (c .before .before .before .before .before .before .before .before .before .before .before .before .before .before .pre .0) (c .before .before .before .before .before .before .before .before .before .before .before .before .before .before .pre .1) (c .before .before .before .before .before .before .before .before .before .before .before .before .before .before .args .o) (c .before .before .before .before .before .before .before .before .before .before .before .before .before .before .pre .2) (c .before .before .before .before .before .before .before .before .before .before .before .before .before .before .pre .3) (c .before .before .before .before .before .before .before .before .before .before .before .before .wide .result) (c .before .before .before .before .before .before .before .before .before .before .before .before .wide .ensures .0) .0)
 
 bypasses-at-requires : tie.Need-bypasses-at-requires
 bypasses-at-requires c κs = (few-instructions (c .before .before .before .before .before .before .before .before .before .before .before .before .before .before .before .args .x) (c .before .before .before .before .before .before .before .before .before .before .before .before .before .before .before .pre .1), owner-fits (c .before .before .before .before .before .before .before .before .before .before .before .before .before .before .before .pre .0) (c .before .before .before .before .before .before .before .before .before .before .before .before .before .before .before .pre .1) (c .before .before .before .before .before .before .before .before .before .before .before .before .before .before .before .args .o) (c .before .before .before .before .before .before .before .before .before .before .before .before .before .before .before .pre .2) (c .before .before .before .before .before .before .before .before .before .before .before .before .before .before .before .pre .3) (c .before .before .before .before .before .before .before .before .before .before .before .before .before .wide .result) (c .before .before .before .before .before .before .before .before .before .before .before .before .before .wide .ensures .0) .0)
@@ -134,7 +134,7 @@ returns c =
     let size = c .before .before .before .before .before .before .before .before .before .before .before .before .before .before .before .wide4 .ensures .0 ∙ ap (λ (own : List ℕ). getD own w 0) (lent .sizes-are) in
     row-is (pre .0) (pre .1) (g .o) (pre .2) lent _ w (c .before .before .before .before .before .before .before .before .before .before .before .before .before .before .before .before .before .before .before .before .before .wide16 .result) (c .before .before .before .before .before .before .before .before .before .before .before .before .before .before .before .before .before .before .before .wide2 .result) (c .before .before .before .before .before .before .before .before .before .before .before .before .before .before .before .before .before .wide3 .result / 8)
     (c .before .before .before .before .before .before .before .before .before .before .before .before .before .before .before .before .before .before .before .before .before .before .before .before .wide .ensures .0 ∙ ap (λ (own : List ℕ). getD own (g .o) 0) (lent .owners-are)) (c .before .before .before .before .before .before .before .before .before .before .before .before .before .before .before .before .before .before .before .before .before .wide16 .ensures .0) (c .before .before .before .before .before .before .before .before .before .before .before .before .before .before .before .before .before .before .before .wide2 .ensures .0) (ap (λ (a : ℕ). a / 8) (c .before .before .before .before .before .before .before .before .before .before .before .before .before .before .before .before .before .wide3 .ensures .0))
-    (c .before .before .before .before .before .before .before .before .before .before .before .before .before .before .preds-at .ensures) (c .before .before .before .before .before .before .before .before .before .before .before .before .partners-at .ensures) (c .before .before .before .before .before .before .before .before .before .before .before .rivals-at .ensures) (c .before .before .before .before .before .before .before .before .before .before .bypasses-at .ensures)
+    (c .before .before .before .before .before .before .before .before .before .before .before .before .before .before .preds-at .ensures) (c .before .before .before .before .before .before .before .before .before .before .before .before .partners-at .ensures) (c .before .before .before .before .before .before .before .before .before .before .before .awaited-at .ensures) (c .before .before .before .before .before .before .before .before .before .before .bypasses-at .ensures)
     (c .before .before .before .before .before .before .before .before .before .bits-from .result) (c .before .before .before .before .before .before .before .before .data-from .result) (λ i l. c .before .before .before .before .before .before .before .before .before .bits-from .ensures i l ∙ covers-by (g .x) w address size i) (λ i l. c .before .before .before .before .before .before .before .before .data-from .ensures i l ∙ data-by (g .x) w address size (lent .bytes-are) i) (c .before .before .before .before .before .before .before .is-writing .result) (c .before .before .before .before .before .before .before .is-writing .ensures)
     (c .before .before .before .before .before .before .wanted .ensures) (c .before .before .before .before .before .wanted2 .ensures) (c .before .before .before .before .word-of .ensures) (c .before .before .before .wanted3 .ensures) (c .before .before .wanted4 .ensures) refl refl (c .before .number-of .ensures) (c .number-of2 .ensures)
 
@@ -160,7 +160,7 @@ row-of-spec =
     index-1-partners-at
     index-2-partners-at
     partners-at-requires
-    rivals-at-requires
+    awaited-at-requires
     bypasses-at-requires
     bits-from-requires
     data-from-requires

@@ -1,0 +1,2 @@
+-- The claim about every list of search calls.
+pub mod PointThree

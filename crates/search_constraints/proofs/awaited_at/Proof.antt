@@ -1,0 +1,93 @@
+-- Each turn takes in what one instruction adds.
+use native.Mathlib.Omega.{arith}
+use Prim.Native.Nat.{ℕ, _-_}
+use mathlib.Core.Path.{ap₂, _∙_}
+use mathlib.Core.Bool.{_||_}
+use lib.ListN.{getD}
+use Rattle.relation_marks.specs.Marks.{markAt}
+use Rattle.search_sets.specs.Set.{holds}
+use Rattle.search_admit.specs.Rows.{awaitedBy}
+use Rattle.search_constraints.proofs.SetLaws.{Added, adds-none, adds-more, added}
+use borrow.Author.Needs.{needs}
+use Rattle.search_constraints.proofs.awaited_at.Statement.{statement}
+use Rattle.search_constraints.proofs.awaited_at.Tie as tie
+
+abbrev Inv-loop : tie.InvT-loop
+Inv-loop n firsts processors marks w role set₀ v₀ set v =
+    Added n (λ u a. awaitedBy (markAt marks u w) role (getD firsts u 0) (getD processors u 0) a) v (set .lo) (set .hi)
+
+abbrev μ-loop : tie.MeasureT-loop
+μ-loop n firsts processors marks w role set₀ v₀ set v = n - v
+
+loop-holds : tie.Need-loop-holds Inv-loop μ-loop
+loop-holds c = adds-none
+
+mul-wide16 : tie.Need-mul-wide16 Inv-loop μ-loop
+mul-wide16 c = search needs
+
+element-copy-out-wide16 : tie.Need-element-copy-out-wide16 Inv-loop μ-loop
+element-copy-out-wide16 c = search needs
+
+wide16-requires : tie.Need-wide16-requires Inv-loop μ-loop
+wide16-requires c κs = search needs
+
+element-copy-out-wide : tie.Need-element-copy-out-wide Inv-loop μ-loop
+element-copy-out-wide c = search needs
+
+wide-requires : tie.Need-wide-requires Inv-loop μ-loop
+wide-requires c κs = search needs
+
+mul-with-awaited : tie.Need-mul-with-awaited Inv-loop μ-loop
+mul-with-awaited c = search needs
+
+mul-with-awaited-2 : tie.Need-mul-with-awaited-2 Inv-loop μ-loop
+mul-with-awaited-2 c = search needs
+
+index-1-with-awaited : tie.Need-index-1-with-awaited Inv-loop μ-loop
+index-1-with-awaited c = search needs
+
+index-2-with-awaited : tie.Need-index-2-with-awaited Inv-loop μ-loop
+index-2-with-awaited c = search needs
+
+with-awaited-requires : tie.Need-with-awaited-requires Inv-loop μ-loop
+with-awaited-requires c κs = (c .before .before .before .wide16 .ensures .1, c .before .wide .ensures .1)
+
+add-v : tie.Need-add-v Inv-loop μ-loop
+add-v c = search needs
+
+loop-less : tie.Need-loop-less Inv-loop μ-loop
+loop-less c = omega (arith, c .before .before .before .before .before .before .loop-test .taken)
+
+loop-again : tie.Need-loop-again Inv-loop μ-loop
+loop-again c =
+    let g = c .before .before .before .before .before .before .before .before .args in
+    let s = c .before .before .before .before .before .before .before .loop .set in
+    let v = c .before .before .before .before .before .before .before .loop .v in
+    adds-more (c .before .before .before .before .before .before .before .loop .inv) (c .before .before .before .before .before .before .loop-test .taken) (c .with-awaited .result .lo) (c .with-awaited .result .hi)
+    (λ a l. c .with-awaited .ensures a l
+    ∙ ap₂ (λ (f p : ℕ). holds (s .lo) (s .hi) a || awaitedBy (markAt (g .marks .now) v (g .w)) (g .role) f p a) (c .before .before .before .before .wide16 .ensures .0) (c .before .before .wide .ensures .0))
+
+returns : tie.Need-returns Inv-loop μ-loop
+returns c = added (c .before .loop .inv) (c .loop-test .left)
+
+pub awaited-at-spec : {M : Type 1} → statement M
+awaited-at-spec =
+    tie.close
+    (tie.spec
+    Inv-loop
+    μ-loop
+    loop-holds
+    mul-wide16
+    element-copy-out-wide16
+    wide16-requires
+    element-copy-out-wide
+    wide-requires
+    mul-with-awaited
+    mul-with-awaited-2
+    index-1-with-awaited
+    index-2-with-awaited
+    with-awaited-requires
+    add-v
+    loop-less
+    loop-again
+    returns)

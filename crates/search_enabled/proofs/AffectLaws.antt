@@ -1,0 +1,115 @@
+-- What the sets of enabled operations come to.
+use Prim.Native.Nat.{ℕ, _+_, _*_, _<_}
+use native.Mathlib.Omega.{arith}
+use native.Mathlib.Decide.{ℕ-discrete}
+use mathlib.Core.Path.{_≡_, refl, sym, ap, ap₂, _∙_}
+use mathlib.Core.Bool.{Bool, true, false, not, cond, _&&_, _||_, and-true, and-false, or-false, false≢true}
+use mathlib.Core.List.{List}
+use lib.ListN.{length, getD}
+use lib.Dec.{eqb, ltb}
+use borrow.Author.Tests.{eq-eqb, ne-eqb, ltb-true, lt-ltb, le-ltb}
+use Rattle.base.specs.Below.{allBelow, anyBelow}
+use Rattle.base.proofs.Bools.{agree}
+use Rattle.base.proofs.Tests.{all-at}
+use Rattle.search_sets.specs.Set.{holds, setAt}
+use Rattle.search_sets.proofs.Tables.{putAt, put-here, put-other}
+use Rattle.search_admit.specs.Rows.{field, precedes, partnerBy, bypasses, readBits, localOf}
+use Rattle.search_admit.specs.Fits.{enabled, dueAfter}
+use Rattle.search_enabled.specs.Affects.{writesWordOf, localTo, affects, enabledAfter}
+
+-- those that x does not affect, and those that are asked anew
+pub after-is : (rows affected words : List ℕ) (elo ehi lo hi x y tlo thi alo ahi klo khi wlo whi : ℕ) → tlo ≡ getD affected (2 * x) 0 → thi ≡ getD affected (2 * x + 1) 0
+    → holds alo ahi y ≡ (holds tlo thi y && not (holds lo hi y)) → holds klo khi y ≡ (holds elo ehi y && not (holds tlo thi y))
+    → holds wlo whi y ≡ (holds klo khi y && not (holds lo hi y))
+    → (holds wlo whi y || (holds alo ahi y && enabled rows lo hi words y)) ≡ enabledAfter rows affected words elo ehi lo hi x y
+after-is rows affected words elo ehi lo hi x y tlo thi alo ahi klo khi wlo whi a b again kept all =
+    ap₂ (λ (p q : Bool). p || (q && enabled rows lo hi words y)) (all ∙ ap (λ (p : Bool). p && not (holds lo hi y)) kept) again
+    ∙ go (holds elo ehi y) (holds tlo thi y) (holds lo hi y) (enabled rows lo hi words y)
+    ∙ ap₂ (λ (u v : ℕ). not (holds lo hi y) && cond (holds u v y) (enabled rows lo hi words y) (holds elo ehi y)) a b
+  where
+    go : (e t s n : Bool) → (((e && not t) && not s) || ((t && not s) && n)) ≡ (not s && cond t n e)
+    go true true true n = refl
+    go true true false n = refl
+    go true false true n = refl
+    go true false false n = refl
+    go false true true n = refl
+    go false true false n = refl
+    go false false true n = refl
+    go false false false n = refl
+
+-- all that x affects stand already
+pub after-none : (rows affected words : List ℕ) (elo ehi lo hi x y tlo thi klo khi wlo whi : ℕ) {r : Bool} → y < 128 → tlo ≡ getD affected (2 * x) 0 → thi ≡ getD affected (2 * x + 1) 0
+    → holds klo khi y ≡ (holds elo ehi y && not (holds tlo thi y)) → holds wlo whi y ≡ (holds klo khi y && not (holds lo hi y))
+    → r ≡ allBelow 128 (λ k. not (holds tlo thi k) || holds lo hi k) → r ≡ true → holds wlo whi y ≡ enabledAfter rows affected words elo ehi lo hi x y
+after-none rows affected words elo ehi lo hi x y tlo thi klo khi wlo whi l a b kept all stand h =
+    all ∙ ap (λ (p : Bool). p && not (holds lo hi y)) kept
+    ∙ go (holds elo ehi y) (holds tlo thi y) (holds lo hi y) (enabled rows lo hi words y) (all-at (λ k. not (holds tlo thi k) || holds lo hi k) 128 (sym stand ∙ h) y l)
+    ∙ ap₂ (λ (u v : ℕ). not (holds lo hi y) && cond (holds u v y) (enabled rows lo hi words y) (holds elo ehi y)) a b
+  where
+    go : (e t s n : Bool) → (not t || s) ≡ true → ((e && not t) && not s) ≡ (not s && cond t n e)
+    go true true true n q = refl
+    go true true false n q = absurd (false≢true q)
+    go true false true n q = refl
+    go true false false n q = refl
+    go false true true n q = refl
+    go false true false n q = absurd (false≢true q)
+    go false false true n q = refl
+    go false false false n q = refl
+
+-- all partners of x stand, or some do not
+module _ (rows : List ℕ) (x lo hi plo phi : ℕ) (low : plo ≡ field rows 2 x) (high : phi ≡ field rows 3 x) {r : Bool}
+    (stand : r ≡ allBelow 128 (λ a. not (holds plo phi a) || holds lo hi a)) where
+  closed : r ≡ allBelow 128 (λ a. not (partnerBy rows x a) || holds lo hi a)
+  closed = stand ∙ ap₂ (λ (u v : ℕ). allBelow 128 (λ a. not (holds u v a) || holds lo hi a)) low high
+
+  pub open-all : r ≡ true → (y : ℕ) (e : Bool) → e ≡ (dueAfter rows x lo hi y && e)
+  open-all h y e = ap (λ (b : Bool). (b || partnerBy rows x y) && e) (sym h ∙ closed)
+
+  pub open-some : r ≡ false → (y : ℕ) (e : Bool) {s : Bool} → s ≡ (holds plo phi y && e) → s ≡ (dueAfter rows x lo hi y && e)
+  open-some h y e is =
+      is ∙ ap₂ (λ (u v : ℕ). holds u v y && e) low high ∙ ap (λ (b : Bool). (b || partnerBy rows x y) && e) (sym h ∙ closed)
+
+-- one set of the table with y
+pub affected-more : (t : List ℕ) (a y lo hi slo shi k : ℕ) → length t ≡ 256 → a < 128 → slo ≡ getD t (2 * a) 0 → shi ≡ getD t (2 * a + 1) 0
+    → ((i : ℕ) → holds lo hi i ≡ (holds slo shi i || eqb i y)) → (b : ℕ) → b < 128 → setAt (putAt t a lo hi) b k ≡ (setAt t b k || (eqb k y && eqb b a))
+affected-more t a y lo hi slo shi k long l low high more b small = go (ℕ-discrete b a)
+  where
+    go : Dec (b ≡ a) → setAt (putAt t a lo hi) b k ≡ (setAt t b k || (eqb k y && eqb b a))
+    go (yes e) =
+        rw e
+        (put-here t a lo hi (omega arith) k ∙ more k
+        ∙ ap₂ (λ (u v : ℕ). holds u v k || eqb k y) low high
+        ∙ ap (λ (d : Bool). setAt t a k || d) (sym (ap (λ (d : Bool). eqb k y && d) (eq-eqb a a refl) ∙ and-true (eqb k y))))
+    go (no e) =
+        put-other t a lo hi b e k
+        ∙ sym (ap (λ (d : Bool). setAt t b k || d) (ap (λ (d : Bool). eqb k y && d) (ne-eqb b a e) ∙ and-false (eqb k y)) ∙ or-false (setAt t b k))
+
+-- what affects y, by the sets that it is made of
+module _ (rows : List ℕ) (a y : ℕ) where
+  pub affects-none : (plo phi : ℕ) {bits : ℕ} → plo ≡ field rows 0 y → phi ≡ field rows 1 y → bits ≡ readBits rows y → bits ≡ 0 → holds plo phi a ≡ affects rows a y
+  unfolding affects
+  affects-none plo phi low high is none =
+      ap₂ (λ (u v : ℕ). holds u v a) low high
+      ∙ sym (ap (λ (b : Bool). precedes rows y a || not b && ((bypasses rows y a || localTo rows a y) || writesWordOf rows a y)) (eq-eqb (readBits rows y) 0 (sym is ∙ none)) ∙ or-false (precedes rows y a))
+
+  pub affects-some : (plo phi slo shi llo lhi wlo whi : ℕ) {bits : ℕ} {r : Bool} → plo ≡ field rows 0 y → phi ≡ field rows 1 y → slo ≡ field rows 6 y → shi ≡ field rows 7 y
+      → bits ≡ readBits rows y → (bits ≡ 0 → ⊥) → holds llo lhi a ≡ (holds slo shi a || anyBelow 128 (λ m. holds slo shi m && eqb (localOf rows m) a))
+      → holds wlo whi a ≡ (holds llo lhi a || writesWordOf rows a y) → r ≡ (holds plo phi a || holds wlo whi a) → r ≡ affects rows a y
+  unfolding affects localTo
+  affects-some plo phi slo shi llo lhi wlo whi low high low' high' is some locals writers all =
+      all
+      ∙ ap₂ (λ (b d : Bool). b || d) (ap₂ (λ (u v : ℕ). holds u v a) low high)
+      (writers ∙ ap (λ (b : Bool). b || writesWordOf rows a y) (locals ∙ ap₂ (λ (u v : ℕ). holds u v a || anyBelow 128 (λ m. holds u v m && eqb (localOf rows m) a)) low' high'))
+      ∙ ap (λ (b : Bool). precedes rows y a || not b && ((bypasses rows y a || localTo rows a y) || writesWordOf rows a y)) (sym (ne-eqb (readBits rows y) 0 (λ e. some (is ∙ e))))
+
+-- the table with those that affect one operation more
+pub affecting-in : (p : ℕ → Bool) (y k : ℕ) (s r : Bool) → s ≡ (ltb k y && p k) → (k ≡ y → r ≡ p y) → (s || (r && eqb k y)) ≡ (ltb k (y + 1) && p k)
+affecting-in p y k s r is here = go (ℕ-discrete k y)
+  where
+    go : Dec (k ≡ y) → (s || (r && eqb k y)) ≡ (ltb k (y + 1) && p k)
+    go (yes e) =
+        ap₂ (λ (b d : Bool). b || (r && d)) (is ∙ ap (λ (b : Bool). b && p k) (le-ltb k y (omega arith))) (eq-eqb k y e)
+        ∙ and-true r ∙ here e ∙ ap p (sym e) ∙ sym (ap (λ (b : Bool). b && p k) (lt-ltb k (y + 1) (omega arith)))
+    go (no e) =
+        ap₂ (λ (b d : Bool). b || (r && d)) is (ne-eqb k y e) ∙ ap (λ (b : Bool). (ltb k y && p k) || b) (and-false r) ∙ or-false (ltb k y && p k)
+        ∙ ap (λ (b : Bool). b && p k) (agree (ltb k y) (ltb k (y + 1)) (λ t. lt-ltb k (y + 1) (omega (arith, ltb-true k y t))) (λ t. lt-ltb k y (omega (arith, ltb-true k (y + 1) t))))

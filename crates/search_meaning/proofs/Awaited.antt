@@ -1,0 +1,261 @@
+-- Rules 9, 10 and 14: the operations that one must wait for are those of the instructions that refuse it.
+use Prim.Native.Nat.{ℕ, _+_, _-_, _≤_, _<_}
+use native.Mathlib.Omega.{arith}
+use native.Mathlib.Decide.{ℕ-discrete}
+use mathlib.Core.Path.{_≡_, refl, sym, ap, _∙_}
+use mathlib.Core.Bool.{Bool, true, false, not, _&&_, _||_, or-false}
+use mathlib.Core.List.{List}
+use lib.ListN.{getD}
+use lib.Dec.{eqb, leb, ltb}
+use borrow.Author.Tests.{eq-eqb, ne-eqb, eqb-true, le-leb, lt-leb, leb-true, leb-false}
+use Rattle.base.specs.Lists.{member}
+use Rattle.base.specs.Below.{anyBelow}
+use Rattle.base.proofs.Bools.{agree, split, clash, and-parts, and-both}
+use Rattle.base.proofs.Tests.{some-at, any-passes}
+use Rattle.model.specs.Execution as model
+use Rattle.model.specs.Execution.{Instruction, R, RV, isStore, isLoad, numberOf, stores, operations}
+use Rattle.model.specs.Accepted.{Accepted}
+use Rattle.record_decoded.specs.Decoded.{instructionAt, executionOf}
+use Rattle.relation_places.specs.Places.{placed, Placed}
+use Rattle.relation_places.proofs.PlaceLaws.{member-placed, placed-absent}
+use Rattle.search_sets.specs.Set.{holds}
+use Rattle.relation_marks.specs.Marks.{hasMark, markAt}
+use Rattle.search_admit.specs.Rows.{ownOf, localOf, awaited, awaitedBy, awaitedOf, writes}
+use Rattle.search_admit.specs.Fits.{Standing, waitsFor, refused}
+use Rattle.search_reduction.proofs.Ownership.{store-processor}
+use Rattle.search_meaning.proofs.Tables.{Tables, RowsMean}
+use Rattle.search_meaning.proofs.Owners.{number-is, role-RV}
+use Rattle.search_meaning.proofs.OperationRows.{RV-writes, IsRV, is-RV, own-by, local-by, own-itself, local-itself}
+use Rattle.search_meaning.proofs.Refusals.{missingBy, storeLost, loadLost, refusesBy, refusedBy}
+use Rattle.search_meaning.proofs.Demands.{conflict-mark, bypass-mark, store-in, remote-few, load-refusal, store-refusal}
+
+-- what an RV may wait for, by the numbers of the two stores
+store-same : (places : List ℕ) (q fv pv fw pw m x : ℕ) → m ≡ 1 + fv + q → x ≡ 1 + fw + q
+    → (missingBy places m
+    && (ltb (placed places (1 + fv + pv)) (placed places (1 + fw + pw))
+    || eqb (1 + fv + pv) m && (eqb (1 + fw + pw) x && ltb (placed places fv) (placed places fw))))
+    ≡ storeLost places q fv pv fw pw
+unfolding storeLost
+store-same places q fv pv fw pw m x em ex = go (ℕ-discrete q pw) (ℕ-discrete pv pw)
+  where
+    a : Bool
+    a = ltb (placed places (1 + fv + pv)) (placed places (1 + fw + pw))
+
+    g : Bool
+    g = ltb (placed places fv) (placed places fw)
+
+    go : Dec (q ≡ pw) → Dec (pv ≡ pw)
+        → (missingBy places m && (a || eqb (1 + fv + pv) m && (eqb (1 + fw + pw) x && g)))
+        ≡ (a && missingBy places (1 + fv + q) || eqb q pw && (eqb pv pw && (g && missingBy places (1 + fv + pv))))
+    go (yes f) (yes d) =
+        rw (
+          eq-eqb (1 + fv + pv) m (omega arith),
+          eq-eqb (1 + fw + pw) x (omega arith),
+          eq-eqb q pw f,
+          eq-eqb pv pw d,
+          ap (missingBy places) (let z : 1 + fv + q ≡ m = omega arith in z),
+          ap (missingBy places) (let z : 1 + fv + pv ≡ m = omega arith in z),
+        )
+        (same (missingBy places m) a g)
+      where
+        same : (s a g : Bool) → (s && (a || g)) ≡ (a && s || g && s)
+        same true true g = refl
+        same true false true = refl
+        same true false false = refl
+        same false true true = refl
+        same false true false = refl
+        same false false true = refl
+        same false false false = refl
+    go (yes f) (no d) =
+        rw (
+          ne-eqb (1 + fv + pv) m (λ z. d (omega arith)),
+          ne-eqb pv pw d,
+          eq-eqb q pw f,
+          ap (missingBy places) (let z : 1 + fv + q ≡ m = omega arith in z),
+          or-false a,
+        )
+        (turned (missingBy places m) a)
+      where
+        turned : (s a : Bool) → (s && a) ≡ (a && s || false)
+        turned true true = refl
+        turned true false = refl
+        turned false true = refl
+        turned false false = refl
+    go (no f) d =
+        rw (
+          ne-eqb (1 + fw + pw) x (λ z. f (omega arith)),
+          ne-eqb q pw f,
+          ap (missingBy places) (let z : 1 + fv + q ≡ m = omega arith in z),
+        )
+        (turned (missingBy places m) a (eqb (1 + fv + pv) m))
+      where
+        turned : (s a b : Bool) → (s && (a || b && false)) ≡ (a && s || false)
+        turned true true b = refl
+        turned true false true = refl
+        turned true false false = refl
+        turned false true b = refl
+        turned false false true = refl
+        turned false false false = refl
+
+-- what an R may wait for, by the numbers of the store
+load-same : (places : List ℕ) (fv pv m x : ℕ) → m ≡ 1 + fv + pv → placed places x ≡ 255
+    → (missingBy places m && (ltb (placed places m) (placed places x) || eqb m m && (eqb x x && ltb (placed places fv) (placed places x)))) ≡ loadLost places fv pv
+unfolding loadLost
+load-same places fv pv m x em absent =
+    rw (eq-eqb m m refl, eq-eqb x x refl, absent, sym em) (same (ltb (placed places m) 255) (ltb (placed places fv) 255))
+  where
+    same : (a b : Bool) → (not a && (a || b)) ≡ (b && not a)
+    same true true = refl
+    same true false = refl
+    same false true = refl
+    same false false = refl
+
+module _ {t : Tables} (h : RowsMean t) (accepted : Accepted (executionOf (t .execution))) (x : ℕ) (low : x < operations (executionOf (t .execution)))
+    {xs places : List ℕ} {n : ℕ} (p : Placed n xs places) (new : member xs x ≡ false) (lo hi : ℕ) (standing : Standing xs lo hi) where
+  abbrev e : model.Execution
+  e = executionOf (t .execution)
+
+  abbrev instruction : ℕ → Instruction
+  instruction i = instructionAt (t .execution .instructions) i
+
+  abbrev owner : ℕ
+  owner = getD (t .operations .owners) x 0
+
+  abbrev roleNumber : ℕ
+  roleNumber = getD (t .operations .roles) x 0
+
+  abbrev refusal : ℕ → Bool
+  refusal v = refusesBy places (t .execution .instructions) (t .marks) roleNumber owner v
+
+  -- what the test asks of an operation that may be waited for
+  abbrev waits : ℕ → Bool
+  waits m = not (holds lo hi m) && waitsFor (t .rows) places x m
+
+  not-standing : (m : ℕ) → m < 128 → not (holds lo hi m) ≡ missingBy places m
+  not-standing m l = ap not (standing m l ∙ member-placed p m)
+
+  waits-is : (m : ℕ) {om ox lm lx : ℕ} → m < 128 → ownOf (t .rows) m ≡ om → ownOf (t .rows) x ≡ ox → localOf (t .rows) m ≡ lm → localOf (t .rows) x ≡ lx
+      → waits m ≡ (missingBy places m && (ltb (placed places om) (placed places ox) || eqb om m && (eqb ox x && ltb (placed places lm) (placed places lx))))
+  unfolding waitsFor
+  waits-is m l a b c d = rw (not-standing m l, a, b, c, d) refl
+
+  small : (o : ℕ) → o < operations e → o < 128
+  small o l = omega (arith, accepted .operations-few)
+
+  -- x is an RV: a store in conflict
+  module _ (v : ℕ) (lv : v < t .execution .instructions .count) (few : 3 ≤ roleNumber) (marked : hasMark (markAt (t .marks) v owner) 128 ≡ true) (m : ℕ)
+      (at : m ≡ 1 + instruction v .first + (roleNumber - 3)) where
+    store-v : isStore (instruction v .kind) ≡ true
+    store-v = and-parts (isStore (instruction v .kind)) (isStore (instruction owner .kind)) (and-parts _ _ (sym (conflict-mark h accepted x low p new v lv) ∙ marked) .0) .0
+
+    remote : IsRV h accepted (instruction v) (roleNumber - 3) m
+    remote = is-RV h accepted (store-in h accepted x low p new v lv store-v) (roleNumber - 3) (remote-few h accepted x low p new (roleNumber - 3) (role-RV roleNumber few)) m (omega arith)
+
+    pub awaited-low : m < 128
+    awaited-low = small m (remote .low)
+
+    pub store-waits : waits m ≡ storeLost places (roleNumber - 3) (instruction v .first) (instruction v .processor) (instruction owner .first) (instruction owner .processor)
+    store-waits =
+        waits-is m awaited-low (remote .own) (own-by h accepted x low (RV-writes roleNumber few)) (remote .local) (local-by h accepted x low (RV-writes roleNumber few))
+        ∙ store-same places (roleNumber - 3) (instruction v .first) (instruction v .processor) (instruction owner .first) (instruction owner .processor) m x at
+        (omega (arith, sym (number-is h accepted x low) ∙ ap (numberOf (instruction owner)) (role-RV roleNumber few)))
+
+  -- x is an R: a UC store
+  module _ (v : ℕ) (lv : v < t .execution .instructions .count) (reads : roleNumber ≡ 0) (marked : hasMark (markAt (t .marks) v owner) 256 ≡ true) (m : ℕ)
+      (at : m ≡ 1 + instruction v .first + instruction v .processor) where
+    store-u : isStore (instruction v .kind) ≡ true
+    store-u = and-parts (isStore (instruction v .kind)) (isLoad (instruction owner .kind)) (and-parts _ _ (sym (bypass-mark h accepted x low p new v lv) ∙ marked) .0) .0
+
+    own-remote : IsRV h accepted (instruction v) (instruction v .processor) m
+    own-remote =
+        let mv = store-in h accepted x low p new v lv store-u in
+        is-RV h accepted mv (instruction v .processor) (store-processor e accepted mv) m (omega arith)
+
+    pub bypass-low : m < 128
+    bypass-low = small m (own-remote .low)
+
+    -- an R has no other operation
+    itself : writes roleNumber ≡ false
+    itself = rw reads refl
+
+    pub load-waits : waits m ≡ loadLost places (instruction v .first) (instruction v .processor)
+    load-waits =
+        waits-is m bypass-low (own-remote .own ∙ sym at) (own-itself h accepted x low itself) (own-remote .local) (local-itself h accepted x low itself)
+        ∙ load-same places (instruction v .first) (instruction v .processor) m x at (placed-absent p x new)
+
+  abbrev awaitedAt : ℕ → ℕ → Bool
+  awaitedAt v m = awaitedOf (t .execution) (t .operations) (t .marks) x v m
+
+  awaited-load : (v m : ℕ) → roleNumber ≡ 0 → awaitedAt v m ≡ (hasMark (markAt (t .marks) v owner) 256 && eqb m (1 + instruction v .first + instruction v .processor))
+  unfolding awaitedBy instructionAt
+  awaited-load v m r = rw (eq-eqb roleNumber 0 r) refl
+
+  awaited-store : (v m : ℕ) → (roleNumber ≡ 0 → ⊥) → 3 ≤ roleNumber
+      → awaitedAt v m ≡ (hasMark (markAt (t .marks) v owner) 128 && eqb m (1 + instruction v .first + (roleNumber - 3)))
+  unfolding awaitedBy instructionAt
+  awaited-store v m z r = rw (ne-eqb roleNumber 0 z, le-leb 3 roleNumber r) refl
+
+  awaited-none : (v m : ℕ) → (roleNumber ≡ 0 → ⊥) → roleNumber < 3 → awaitedAt v m ≡ false
+  unfolding awaitedBy
+  awaited-none v m z r = rw (ne-eqb roleNumber 0 z, lt-leb 3 roleNumber r) refl
+
+  -- where an operation must be waited for, its instruction refuses
+  awaited-refuses : (v m : ℕ) → v < t .execution .instructions .count → awaitedAt v m ≡ true → waits m ≡ true → refusal v ≡ true
+  awaited-refuses v m l r w =
+      split (eqb roleNumber 0)
+      (λ z.
+      let reads = eqb-true roleNumber 0 z in
+      let (k, q) = and-parts (hasMark (markAt (t .marks) v owner) 256) (eqb m (1 + instruction v .first + instruction v .processor)) (sym (awaited-load v m reads) ∙ r) in
+      load-refusal h accepted x low p new v reads ∙ and-both k (sym (load-waits v l reads k m (eqb-true m (1 + instruction v .first + instruction v .processor) q)) ∙ w))
+      (λ z. split (leb 3 roleNumber)
+      (λ s.
+      let few = leb-true 3 roleNumber s in
+      let other : roleNumber ≡ 0 → ⊥ = λ u. clash (eq-eqb roleNumber 0 u) z in
+      let (k, q) = and-parts (hasMark (markAt (t .marks) v owner) 128) (eqb m (1 + instruction v .first + (roleNumber - 3))) (sym (awaited-store v m other few) ∙ r) in
+      store-refusal h accepted x low p new v other few ∙ and-both k (sym (store-waits v l few k m (eqb-true m (1 + instruction v .first + (roleNumber - 3)) q)) ∙ w))
+      (λ s. clash r (awaited-none v m (λ u. clash (eq-eqb roleNumber 0 u) z) (leb-false 3 roleNumber s))))
+
+  refusal-none : (v : ℕ) → (roleNumber ≡ 0 → ⊥) → roleNumber < 3 → refusal v ≡ false
+  unfolding refusesBy
+  refusal-none v z r = rw (ne-eqb roleNumber 0 z, lt-leb 3 roleNumber r) refl
+
+  abbrev found : Type 0
+  found = (m : ℕ) × (m < 128) × (awaited (t .rows) x m && not (holds lo hi m) && waitsFor (t .rows) places x m ≡ true)
+
+  awaited-there : (v m : ℕ) → v < t .execution .instructions .count → m < 128 → awaitedAt v m ≡ true → waits m ≡ true → found
+  awaited-there v m l s r w =
+      let (w1, w2) = and-parts (not (holds lo hi m)) (waitsFor (t .rows) places x m) w in
+      (m, s, and-both (and-both (h .rowed x low .awaited-are m s ∙ any-passes (λ u. awaitedAt u m) (t .execution .instructions .count) v l r) w1) w2)
+
+  -- where an instruction refuses, an operation of it must be waited for
+  refuses-awaited : (v : ℕ) → v < t .execution .instructions .count → refusal v ≡ true → found
+  refuses-awaited v l r =
+      split (eqb roleNumber 0)
+      (λ z.
+      let reads = eqb-true roleNumber 0 z in
+      let m = 1 + instruction v .first + instruction v .processor in
+      let (k, q) = and-parts (hasMark (markAt (t .marks) v owner) 256) (loadLost places (instruction v .first) (instruction v .processor)) (sym (load-refusal h accepted x low p new v reads) ∙ r) in
+      awaited-there v m l (bypass-low v l reads k m refl) (awaited-load v m reads ∙ and-both k (eq-eqb m m refl)) (load-waits v l reads k m refl ∙ q))
+      (λ z. split (leb 3 roleNumber)
+      (λ s.
+      let few = leb-true 3 roleNumber s in
+      let other : roleNumber ≡ 0 → ⊥ = λ u. clash (eq-eqb roleNumber 0 u) z in
+      let m = 1 + instruction v .first + (roleNumber - 3) in
+      let (k, q) = and-parts (hasMark (markAt (t .marks) v owner) 128) (storeLost places (roleNumber - 3) (instruction v .first) (instruction v .processor) (instruction owner .first) (instruction owner .processor)) (sym (store-refusal h accepted x low p new v other few) ∙ r) in
+      awaited-there v m l (awaited-low v l few k m refl) (awaited-store v m other few ∙ and-both k (eq-eqb m m refl)) (store-waits v l few k m refl ∙ q))
+      (λ s. clash r (refusal-none v (λ u. clash (eq-eqb roleNumber 0 u) z) (leb-false 3 roleNumber s))))
+
+  pub awaited-refuse : refused (t .rows) places lo hi x ≡ refusedBy places (t .execution .instructions) (t .operations) (t .marks) x
+  unfolding refused refusedBy
+  awaited-refuse =
+      agree (anyBelow 128 (λ m. awaited (t .rows) x m && not (holds lo hi m) && waitsFor (t .rows) places x m)) (anyBelow (t .execution .instructions .count) refusal)
+      (λ a.
+      let (m, s, k) = some-at _ 128 a in
+      let (k1, k2) = and-parts (awaited (t .rows) x m && not (holds lo hi m)) (waitsFor (t .rows) places x m) k in
+      let (k3, k4) = and-parts (awaited (t .rows) x m) (not (holds lo hi m)) k1 in
+      let (v, l, r) = some-at (λ u. awaitedAt u m) (t .execution .instructions .count) (sym (h .rowed x low .awaited-are m s) ∙ k3) in
+      any-passes refusal (t .execution .instructions .count) v l (awaited-refuses v m l r (and-both k4 k2)))
+      (λ a.
+      let (v, l, r) = some-at refusal (t .execution .instructions .count) a in
+      let (m, s, k) = refuses-awaited v l r in
+      any-passes _ 128 m s k)

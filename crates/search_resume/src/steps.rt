@@ -1,0 +1,181 @@
+// The search from a position: one walk a step, and one more to see whether anything is left.
+ghost use mathlib.Core.Path.{_≡_};
+ghost use mathlib.Core.Bool.{true};
+ghost use mathlib.Core.List.{[]};
+ghost use Prim.Native.Nat.{_<_, _≤_};
+ghost use lib.ListN as ListN;
+ghost use Rattle.base.specs.Lists.{distinct};
+ghost use Rattle.search_enabled.specs.Affects.{Affecting};
+ghost use Rattle.search_walk.specs.Walks.{Kept};
+ghost use Rattle.record_decoded.specs.Positions.{positionOf};
+ghost use Rattle.search_resume.specs.Outcomes.{SearchedFrom, StepsMade};
+use crate::replay::first_level;
+use crate::replay::first_words;
+use crate::replay::replay;
+use record_decoded::position::Position;
+use relation_places::ABSENT;
+use search_walk::WalkAnswer;
+use search_walk::walk;
+
+pub enum Verdict {
+    Unfinished,
+    Allowed,
+    Forbidden,
+}
+
+// What a search comes to: its verdict, its steps and the position it leaves, if the position given is consistent.
+pub struct Outcome {
+    pub consistent: bool,
+    pub verdict: Verdict,
+    pub steps: u32,
+    pub position: Position,
+}
+
+// An outcome without a step: the position given, and nothing more.
+fn without_step(consistent: bool, verdict: Verdict, given: Position) -> Outcome
+    ensures { λ r. ⌜ (r .consistent ≡ consistent) × (r .verdict ≡ verdict) × (r .steps ≡ 0) × (r .position ≡ given) ⌝ }
+{
+    Outcome {
+        consistent,
+        verdict,
+        steps: 0,
+        position: given,
+    }
+}
+
+// The steps from a consistent position that is not full.
+fn make_steps(
+    n: usize,
+    given: Position,
+    placed: [u8; 128],
+    sets: [u64; 774],
+    wrote: [u64; 128],
+    over: [u64; 128],
+    allowance: u32,
+    rows: &[u64; 2304],
+    affected: &[u64; 256],
+) -> Outcome
+    requires { ⌜ (n ≤ 128) × (given .length < n) × Kept n (now rows) (given .entries) placed sets wrote over (given .length) × Affecting n (now rows) (now affected) ⌝ }
+    requires { ⌜ (ListN.length (given .entries) ≡ 128) × (ListN.length placed ≡ 128) × (ListN.length wrote ≡ 128) ⌝ }
+    ensures { λ r. ⌜ StepsMade n (now (rows .entry)) (positionOf given) allowance r ⌝ }
+{
+    let mut entries = given.entries;
+    let mut places = placed;
+    let mut levels = sets;
+    let mut words = wrote;
+    let mut replaced = over;
+    let mut length = given.length;
+    let mut steps: u32 = 0;
+    while steps < allowance {
+        let next = walk(
+            n,
+            &mut entries,
+            length,
+            &mut places,
+            &mut levels,
+            &mut words,
+            &mut replaced,
+            rows,
+            affected,
+        );
+        match next {
+            WalkAnswer::End => {
+                return Outcome {
+                    consistent: true,
+                    verdict: Verdict::Forbidden,
+                    steps,
+                    position: given,
+                };
+            }
+            WalkAnswer::Next(size) => {
+                steps += 1;
+                length = size;
+            }
+        }
+        if length == n {
+            return Outcome {
+                consistent: true,
+                verdict: Verdict::Allowed,
+                steps,
+                position: Position { length, entries },
+            };
+        }
+    }
+    let reached = entries;
+    let last = walk(
+        n,
+        &mut entries,
+        length,
+        &mut places,
+        &mut levels,
+        &mut words,
+        &mut replaced,
+        rows,
+        affected,
+    );
+    match last {
+        WalkAnswer::End => Outcome {
+            consistent: true,
+            verdict: Verdict::Forbidden,
+            steps,
+            position: given,
+        },
+        WalkAnswer::Next(_) => Outcome {
+            consistent: true,
+            verdict: Verdict::Unfinished,
+            steps,
+            position: Position {
+                length,
+                entries: reached,
+            },
+        },
+    }
+}
+
+// From a position of different operations: whether it is consistent, and if so what the search comes to.
+pub fn search_from(
+    n: usize,
+    given: Position,
+    allowance: u32,
+    rows: &[u64; 2304],
+    affected: &[u64; 256],
+) -> Outcome
+    requires { ⌜ (n ≤ 128) × (given .length ≤ n) × (distinct n [] (positionOf given) ≡ true) × (ListN.length (given .entries) ≡ 128) × Affecting n (now rows) (now affected) ⌝ }
+    ensures { λ r. ⌜ SearchedFrom n (now (rows .entry)) (positionOf given) allowance r ⌝ }
+{
+    let mut entries = given.entries;
+    let length = given.length;
+    let mut places = [ABSENT; 128];
+    let mut words = first_words(rows);
+    let mut levels = first_level(n, rows, &words);
+    let mut replaced = [0u64; 128];
+    let consistent = replay(
+        n,
+        &mut entries,
+        length,
+        &mut places,
+        &mut levels,
+        &mut words,
+        &mut replaced,
+        rows,
+        affected,
+    );
+    if !consistent {
+        return without_step(false, Verdict::Unfinished, given);
+    }
+    if length == n {
+        return without_step(true, Verdict::Allowed, given);
+    }
+    let from = Position { length, entries };
+    make_steps(
+        n,
+        from,
+        places,
+        levels,
+        words,
+        replaced,
+        allowance,
+        rows,
+        affected,
+    )
+}
