@@ -18,7 +18,7 @@ static void say_judgement(const uint8_t *order, size_t entries)
     uint32_t number = oglindesh_judge(k1, sizeof k1, order, entries);
     if (number > OGLINDESH_REFUSED)
         printf("question %u refuses the order\n", (unsigned)(number - OGLINDESH_REFUSED));
-    else if (number > 0)
+    else if (number != OGLINDESH_LEGAL)
         printf("the order breaks rule %u\n", (unsigned)number);
     else
         printf("the order is legal\n");
@@ -53,7 +53,7 @@ static void print_chains(void)
 {
     uint8_t table[3 * 3];
 
-    if (oglindesh_chains(k1, sizeof k1, table, sizeof table) != 0)
+    if (oglindesh_chains(k1, sizeof k1, table, sizeof table) != OGLINDESH_DONE)
         return;
     for (size_t a = 0; a < 3; a++)
         for (size_t b = 0; b < 3; b++)

@@ -9,6 +9,8 @@
  * - A number from OGLINDESH_REFUSED + 1 on says that a question refuses the call: it is OGLINDESH_REFUSED + the number of the
  *   first question answered 'no'. Then no lent byte has changed.
  * - Nothing is kept between calls, so calls on different arrays may be made at the same time.
+ * - Nothing is taken from the heap. What a call needs of the stack does not depend on the record; measured and rounded up:
+ *   oglindesh_check 16 KB, oglindesh_judge 16 KB, oglindesh_search 64 KB, oglindesh_chains 48 KB.
  */
 #ifndef OGLINDESH_H
 #define OGLINDESH_H
@@ -20,8 +22,41 @@
 extern "C" {
 #endif
 
+/* The version of what is declared here. MAJOR goes up where a caller has to change: a call, an answer's number, a question or the
+ * layout of a record is another. MINOR goes up where something is added; while MAJOR is 0, for both. */
+#define OGLINDESH_VERSION_MAJOR 0
+#define OGLINDESH_VERSION_MINOR 1
+#define OGLINDESH_VERSION "0.1"
+
 /* What a refused call returns, less the number of the question. */
 #define OGLINDESH_REFUSED 256u
+
+/* What a refused call returns, and the question that was answered 'no'. Of the record: */
+#define OGLINDESH_REFUSED_CUT_SHORT (OGLINDESH_REFUSED + 1u)             /* does the item end within the bytes? */
+#define OGLINDESH_REFUSED_PROCESSOR_COUNT (OGLINDESH_REFUSED + 2u)       /* are there 1 to 8 processors? */
+#define OGLINDESH_REFUSED_LINE_COUNT (OGLINDESH_REFUSED + 3u)            /* are there 1 to 8 lines? */
+#define OGLINDESH_REFUSED_UNKNOWN_ATTRIBUTE (OGLINDESH_REFUSED + 4u)     /* is the attribute 0 to 2? */
+#define OGLINDESH_REFUSED_TOO_MANY_INSTRUCTIONS (OGLINDESH_REFUSED + 5u) /* are there at most 40 with this count added? */
+#define OGLINDESH_REFUSED_UNKNOWN_KIND (OGLINDESH_REFUSED + 6u)          /* is the kind 0 to 4? */
+#define OGLINDESH_REFUSED_WRONG_SIZE (OGLINDESH_REFUSED + 7u)            /* is the size 1, 2, 4 or 8 (mf: 0)? */
+#define OGLINDESH_REFUSED_WRONG_ADDRESS (OGLINDESH_REFUSED + 8u)         /* is it in the lines, a multiple of the size (mf: 0)? */
+#define OGLINDESH_REFUSED_DATA_PAST_SIZE (OGLINDESH_REFUSED + 9u)        /* are data bytes past the size zero? */
+#define OGLINDESH_REFUSED_NO_INSTRUCTION (OGLINDESH_REFUSED + 10u)       /* is there any instruction? */
+#define OGLINDESH_REFUSED_TOO_MANY_OPERATIONS (OGLINDESH_REFUSED + 11u)  /* is N at most 128? */
+#define OGLINDESH_REFUSED_TOO_MANY_PAIRS (OGLINDESH_REFUSED + 12u)       /* are there at most 40 pairs? */
+#define OGLINDESH_REFUSED_WRONG_PAIR (OGLINDESH_REFUSED + 13u)           /* ascending, in one program, no mf, not both stores? */
+#define OGLINDESH_REFUSED_PAIRS_NOT_ASCENDING (OGLINDESH_REFUSED + 14u)  /* is the pair above the one before it? */
+#define OGLINDESH_REFUSED_BYTES_LEFT (OGLINDESH_REFUSED + 15u)           /* does the record end here? */
+/* Of an offered order: */
+#define OGLINDESH_REFUSED_ORDER_LENGTH (OGLINDESH_REFUSED + 16u) /* is its length N? */
+#define OGLINDESH_REFUSED_ORDER_ENTRY (OGLINDESH_REFUSED + 17u)  /* is each entry below N and different from those before it? */
+/* Of a search: */
+#define OGLINDESH_REFUSED_SHORT_BUFFER (OGLINDESH_REFUSED + 18u)       /* has the buffer N bytes or more? */
+#define OGLINDESH_REFUSED_SAVED_LENGTH (OGLINDESH_REFUSED + 19u)       /* is the saved length at most N? */
+#define OGLINDESH_REFUSED_SAVED_ENTRY (OGLINDESH_REFUSED + 20u)        /* is each below N and different from those before it? */
+#define OGLINDESH_REFUSED_SAVED_INCONSISTENT (OGLINDESH_REFUSED + 21u) /* is the saved position consistent? */
+/* Of a chain table: */
+#define OGLINDESH_REFUSED_SHORT_TABLE (OGLINDESH_REFUSED + 22u) /* has it N * N bytes or more? */
 
 /* No record is longer: 8 lines, 40 instructions, 40 pairs, and the counts. */
 #define OGLINDESH_MAX_RECORD 603
@@ -29,14 +64,20 @@ extern "C" {
 /* No record has more operations, so a buffer of this many bytes serves every search. */
 #define OGLINDESH_MAX_OPERATIONS 128
 
+/* The answer of a check. */
+#define OGLINDESH_PASSES 0u /* the record passes questions 1 to 15 */
+
 /* Whether a record is one.
- *   0         it passes questions 1 to 15
+ *   PASSES    it passes questions 1 to 15
  *   256 + q   question q refuses it, 1 to 15
  */
 uint32_t oglindesh_check(const uint8_t *record, size_t length);
 
+/* The answer of a judge that is no rule. */
+#define OGLINDESH_LEGAL 0u /* the order breaks no rule */
+
 /* Judges an order of all N operations of a record, one byte an operation number.
- *   0         the order is legal: it breaks no rule
+ *   LEGAL     the order breaks no rule
  *   1 to 14   the lowest rule that it breaks
  *   256 + q   question q refuses it: 1 to 15 the record, 16 and 17 the order
  */
@@ -63,9 +104,12 @@ struct oglindesh_search_reply {
 struct oglindesh_search_reply oglindesh_search(const uint8_t *record, size_t length, uint8_t *buffer, size_t room, size_t saved,
                                                uint32_t allowance);
 
+/* The answer of a chain table. */
+#define OGLINDESH_DONE 0u /* the table is written */
+
 /* Writes the chain table of a record's N operations, N rows of N bytes: the byte at a * N + b becomes 1 where one or more links
  * (a 'before' that rules 1 to 8 and 13 demand without an 'if') lead from operation a to operation b, else 0. Bytes behind stay.
- *   0         it is written
+ *   DONE      it is written
  *   256 + q   question q refuses it: 1 to 15 the record, 22 the table's length
  */
 uint32_t oglindesh_chains(const uint8_t *record, size_t length, uint8_t *table, size_t room);

@@ -80,8 +80,23 @@ mod exported {
     }
 }
 
-/// What a refused call returns, less the number of the question.
-const REFUSED: u32 = 256;
+/// The numbers that the calls return, by the names that include/oglindesh.h has for them.
+pub mod numbers {
+    /// [`check`](super::check): the record passes questions 1 to 15.
+    pub const PASSES: u32 = 0;
+    /// [`judge`](super::judge): the order breaks no rule.
+    pub const LEGAL: u32 = 0;
+    /// [`search`](super::search), and the two after it.
+    pub const UNFINISHED: u32 = 0;
+    pub const ALLOWED: u32 = 1;
+    pub const FORBIDDEN: u32 = 2;
+    /// [`chain_table`](super::chain_table): the table is written.
+    pub const DONE: u32 = 0;
+    /// What a refused call returns, less the number of the question.
+    pub const REFUSED: u32 = 256;
+}
+
+use numbers::{ALLOWED, DONE, FORBIDDEN, LEGAL, PASSES, REFUSED, UNFINISHED};
 
 /// The question of a number that says 'refused'.
 fn question(number: u32) -> u8 {
@@ -100,7 +115,7 @@ fn question(number: u32) -> u8 {
 pub fn check(record: &[u8]) -> Result<(), u8> {
     // SAFETY: the pointer and the length are those of one slice, which the call only reads.
     match unsafe { exported::oglindesh_check(record.as_ptr(), record.len()) } {
-        0 => Ok(()),
+        PASSES => Ok(()),
         number => Err(question(number)),
     }
 }
@@ -132,7 +147,7 @@ pub fn judge(record: &[u8], order: &[u8]) -> Result<Judgement, u8> {
     match unsafe {
         exported::oglindesh_judge(record.as_ptr(), record.len(), order.as_ptr(), order.len())
     } {
-        0 => Ok(Judgement::Legal),
+        LEGAL => Ok(Judgement::Legal),
         number if number < REFUSED => Ok(Judgement::Breaks(rule(number))),
         number => Err(question(number)),
     }
@@ -176,7 +191,7 @@ pub fn chain_table(record: &[u8], table: &mut [u8]) -> Result<(), u8> {
             table.len(),
         )
     } {
-        0 => Ok(()),
+        DONE => Ok(()),
         number => Err(question(number)),
     }
 }
@@ -239,9 +254,9 @@ pub fn search(record: &[u8], buffer: &mut [u8], saved: usize, allowance: u32) ->
         )
     };
     let answer = match numbers.answer {
-        0 => Ok(Verdict::Unfinished),
-        1 => Ok(Verdict::Allowed),
-        2 => Ok(Verdict::Forbidden),
+        UNFINISHED => Ok(Verdict::Unfinished),
+        ALLOWED => Ok(Verdict::Allowed),
+        FORBIDDEN => Ok(Verdict::Forbidden),
         number => Err(question(number)),
     };
     SearchReply {

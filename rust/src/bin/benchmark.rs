@@ -3,11 +3,12 @@
 use std::time::Instant;
 
 use oglindesh::examples::{eight_processors, named};
-use oglindesh::proved::{self, Verdict};
+use oglindesh::proved::{self, Judgement, Verdict};
 use oglindesh::reference::notation::{ld, programs, st, X, Y, Z};
 use oglindesh::reference::record::Execution;
+use oglindesh::reference::rules::{self, JudgeAnswer};
 use oglindesh::reference::search::SearchAnswer;
-use oglindesh::reference::{chains, fast, rules};
+use oglindesh::reference::{chains, fast};
 
 /// The mean time of a call in microseconds.
 fn microseconds(rounds: u32, mut call: impl FnMut()) -> f64 {
@@ -29,30 +30,31 @@ fn legal_order(execution: &Execution) -> Vec<u8> {
 fn judge_line(execution: &Execution) {
     let bytes = execution.to_bytes();
     let order = legal_order(execution);
-    let proved = microseconds(1000, || {
-        proved::judge(&bytes, &order).expect("the order is not refused");
-    });
-    let reference = microseconds(20, || {
-        rules::judge(&bytes, &order);
-    });
-    println!(
-        "judge, {} operations: proved {proved:.1} us, plain Rust {reference:.1} us",
-        order.len()
+    let times = beside(
+        CALLS_A_ROUND,
+        || assert_eq!(proved::judge(&bytes, &order), Ok(Judgement::Legal)),
+        || assert_eq!(rules::judge(&bytes, &order), JudgeAnswer::Legal),
     );
+    call_times(&format!("judge, {} operations", order.len()), &times);
 }
 
 fn chain_table_line(execution: &Execution) {
     let bytes = execution.to_bytes();
     let count = execution.operation_count();
-    let mut table = vec![0; count * count];
-    let proved = microseconds(1000, || {
-        proved::chain_table(&bytes, &mut table).expect("the table is not refused");
-    });
-    let reference = microseconds(1000, || {
-        chains::chain_table(&bytes, &mut table).expect("the table is not refused");
-    });
+    let (mut table, mut other) = (vec![0; count * count], vec![0; count * count]);
+    let times = beside(
+        CALLS_A_ROUND,
+        || proved::chain_table(&bytes, &mut table).expect("the table is not refused"),
+        || chains::chain_table(&bytes, &mut other).expect("the table is not refused"),
+    );
+    call_times(&format!("chain table, {count} operations"), &times);
+}
+
+/// Prints the microseconds that a whole call takes both ways.
+fn call_times(what: &str, times: &Beside) {
     println!(
-        "chain table, {count} operations: proved {proved:.1} us, plain Rust {reference:.1} us"
+        "{what}: proved {:.1} us, plain Rust {:.1} us, ratio {:.2}",
+        times.proved, times.reference, times.ratio
     );
 }
 
@@ -119,13 +121,9 @@ fn search_line(name: &str, execution: &Execution, allowance: u32) {
 /// The microseconds that a whole call takes both ways: reading, questions, tables, and the steps it makes.
 fn call_line(name: &str, execution: &Execution, allowance: u32) {
     let (times, steps) = search_beside(CALLS_A_ROUND, execution, allowance);
-    println!(
-        "search call, {name}, {} operations, {steps} steps: proved {:.1} us, plain Rust {:.1} us, ratio {:.2}",
-        execution.operation_count(),
-        times.proved,
-        times.reference,
-        times.ratio
-    );
+    let count = execution.operation_count();
+    let what = format!("search call, {name}, {count} operations, {steps} steps");
+    call_times(&what, &times);
 }
 
 /// Rounds of which the median is taken.

@@ -81,13 +81,17 @@ impl Written {
 #[derive(Clone, PartialEq, Eq, Debug)]
 pub struct Wrong {
     pub file: String,
+    /// From 1; 0 where it is the whole file.
     pub line: usize,
     pub what: String,
 }
 
 impl fmt::Display for Wrong {
     fn fmt(&self, f: &mut fmt::Formatter) -> fmt::Result {
-        write!(f, "{}:{}: {}", self.file, self.line, self.what)
+        match self.line {
+            0 => write!(f, "{}: {}", self.file, self.what),
+            line => write!(f, "{}:{line}: {}", self.file, self.what),
+        }
     }
 }
 
@@ -110,7 +114,7 @@ fn load_as(file: &str, path: &Path) -> Result<Vec<Written>, Wrong> {
     let text = std::fs::read_to_string(path).map_err(|error| Wrong {
         file: file.to_string(),
         line: 0,
-        what: format!("the file cannot be read: {error}"),
+        what: format!("the file cannot be read: {error}: write the path of a text file"),
     })?;
     read(file, &text)
 }

@@ -1,0 +1,201 @@
+//! The program `book` as it is built: what it prints, where, and whether it says that it failed.
+
+use oglindesh::examples::{k1, k1_uncacheable, named};
+use std::io::{BufRead, BufReader};
+use std::path::PathBuf;
+use std::process::{Command, Output, Stdio};
+
+/// The repository, in which the program is run.
+const ROOT: &str = concat!(env!("CARGO_MANIFEST_DIR"), "/..");
+
+fn book(arguments: &[&str]) -> Output {
+    let mut command = Command::new(env!("CARGO_BIN_EXE_book"));
+    let run = command.current_dir(ROOT).args(arguments).output();
+    run.expect("the program starts")
+}
+
+fn text(bytes: &[u8]) -> &str {
+    std::str::from_utf8(bytes).expect("it is text")
+}
+
+/// What a run that succeeds prints; it says nothing on standard error.
+fn printed(arguments: &[&str]) -> Vec<u8> {
+    let output = book(arguments);
+    assert_eq!(text(&output.stderr), "", "{arguments:?}");
+    assert!(output.status.success(), "{arguments:?}");
+    output.stdout
+}
+
+/// What a run that fails says on standard error; it prints nothing.
+fn complaint(arguments: &[&str]) -> String {
+    let output = book(arguments);
+    assert_eq!(output.stdout, b"", "{arguments:?}");
+    assert_eq!(output.status.code(), Some(1), "{arguments:?}");
+    text(&output.stderr).to_string()
+}
+
+/// A file of this text, in Cargo's folder for tests; no two tests use the same name.
+fn file(name: &str, text: &str) -> String {
+    let path = PathBuf::from(env!("CARGO_TARGET_TMPDIR")).join(name);
+    std::fs::write(&path, text).expect("the file is written");
+    path.display().to_string()
+}
+
+const K1: &str = "execution K1\n  programs st x=1, ld x sees 1\n";
+
+#[test]
+fn check_of_a_good_file() {
+    let good = file("good.txt", &format!("{K1}  allowed steps 3\n"));
+    let all = "1 executions, 1 claims, 1 records, 3 steps: all as claimed\n";
+    assert_eq!(text(&printed(&["check", &good])), format!("{good}: {all}"));
+}
+
+#[test]
+fn check_of_two_files() {
+    let good = file("one_of_two.txt", &format!("{K1}  allowed\n"));
+    let lines = printed(&["check", "executions/scope.txt", &good]);
+    let lines: Vec<&str> = text(&lines).lines().collect();
+    assert_eq!(lines.len(), 2);
+    assert!(lines[0].starts_with("executions/scope.txt: "));
+    assert!(lines[1].starts_with(&format!("{good}: 1 executions, ")));
+}
+
+/// With no file it begins with the first of the repository's own, from whatever folder; all of them take some seconds.
+#[test]
+fn check_of_no_file() {
+    let mut child = Command::new(env!("CARGO_BIN_EXE_book"))
+        .arg("check")
+        .current_dir(env!("CARGO_TARGET_TMPDIR"))
+        .stdout(Stdio::piped())
+        .spawn()
+        .expect("the program starts");
+    let mut line = String::new();
+    let output = child.stdout.take().expect("its output is a pipe");
+    let read = BufReader::new(output).read_line(&mut line);
+    child.kill().expect("the program is stopped");
+    child.wait().expect("the program ends");
+    assert!(read.is_ok());
+    assert!(line.starts_with("executions/scope.txt: "), "{line}");
+}
+
+#[test]
+fn check_of_a_wrong_line() {
+    let wrong = file("wrong_line.txt", "execution e\n\n  programs lod x sees 0\n");
+    let says = complaint(&["check", &wrong]);
+    let begins = format!("{wrong}:3: `lod` is not an instruction: write ld, ");
+    assert!(says.starts_with(&begins), "{says}");
+}
+
+#[test]
+fn check_of_a_claim_that_does_not_hold() {
+    let wrong = file("wrong_claim.txt", &format!("{K1}  allowed\n  forbidden\n"));
+    let says = complaint(&["check", &wrong]);
+    assert!(
+        says.starts_with(&format!("{wrong}:4: K1 on WB: ")),
+        "{says}"
+    );
+    assert!(says.contains("not Forbidden as claimed"), "{says}");
+}
+
+#[test]
+fn record_is_bytes_alone() {
+    let scope = "executions/scope.txt";
+    assert_eq!(printed(&["record", scope, "K1"]), k1().to_bytes());
+    let eight = named("scope", "eight processors").to_bytes();
+    assert_eq!(printed(&["record", scope, "eight processors"]), eight);
+}
+
+/// The attributes are those of the first claim.
+#[test]
+fn record_on_the_first_claim() {
+    let first = file(
+        "first_claim.txt",
+        &format!("{K1}  allowed on UC or WB\n  allowed\n"),
+    );
+    let bytes = printed(&["record", &first, "K1"]);
+    assert_eq!(bytes, k1_uncacheable().to_bytes());
+    assert_ne!(bytes, k1().to_bytes());
+}
+
+#[test]
+fn record_of_an_unknown_name() {
+    let one = file("one.txt", &format!("{K1}  allowed\n"));
+    let says = complaint(&["record", &one, "K2"]);
+    assert_eq!(
+        says,
+        format!("{one} has no execution `K2`: write one of: K1\n")
+    );
+}
+
+/// The rows of a help, each cut into its columns.
+fn rows(help: &str) -> Vec<Vec<&str>> {
+    let rows = help.lines().filter_map(|line| line.strip_prefix("  "));
+    let columns = rows.map(|row| row.split("   ").map(str::trim));
+    columns
+        .map(|columns| columns.filter(|column| !column.is_empty()).collect())
+        .collect()
+}
+
+#[test]
+fn help_has_a_row_for_each_command() {
+    let help = printed(&["help"]);
+    let rows = rows(text(&help));
+    let forms: Vec<&str> = rows.iter().map(|row| row[0]).collect();
+    for form in [
+        "book check [FILE ...]",
+        "book record FILE NAME",
+        "book help",
+    ] {
+        assert!(forms.contains(&form), "{forms:?}");
+    }
+    for row in rows {
+        let name = row[0].split(' ').take(2).collect::<Vec<_>>().join(" ");
+        assert_eq!(row.len(), 3, "{row:?}");
+        assert!(row[2].starts_with(&name), "{row:?}");
+    }
+}
+
+#[test]
+fn no_command_and_an_unknown_one() {
+    let help = printed(&["help"]);
+    for (arguments, says) in [
+        (&[][..], "No command was given"),
+        (&["chek"], "`chek` is not a command"),
+        (&["chek", "executions/scope.txt"], "`chek` is not a command"),
+    ] {
+        let complaint = complaint(arguments);
+        assert!(complaint.starts_with(says), "{complaint}");
+        assert_eq!(rows(&complaint), rows(text(&help)));
+    }
+}
+
+#[test]
+fn wrong_arguments() {
+    for (arguments, says) in [
+        (&["record"][..], "write: book record FILE NAME, "),
+        (
+            &["record", "executions/scope.txt"],
+            "write: book record FILE NAME, ",
+        ),
+        (&["record", "a", "b", "c"], "write: book record FILE NAME, "),
+        (&["check", "--all"], "write: book check [FILE ...], "),
+        (&["help", "check"], "write: book help, "),
+    ] {
+        let complaint = complaint(arguments);
+        assert!(complaint.starts_with(says), "{arguments:?}: {complaint}");
+        assert_eq!(complaint.lines().count(), 1, "{complaint}");
+    }
+}
+
+#[test]
+fn a_missing_file() {
+    for arguments in [
+        &["check", "missing.txt"][..],
+        &["record", "missing.txt", "K1"],
+    ] {
+        let complaint = complaint(arguments);
+        let says = "missing.txt: the file cannot be read: ";
+        assert!(complaint.starts_with(says), "{complaint}");
+        assert!(complaint.ends_with(": write the path of a text file\n"));
+    }
+}
