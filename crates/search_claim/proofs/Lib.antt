@@ -5,3 +5,4 @@ pub mod Orders
 pub mod Buffer
 pub mod Calls
 pub mod Whole
+pub mod Next

@@ -1,2 +1,3 @@
--- The claim about every list of search calls.
+-- The claims of the search: every list of its calls, and its walk.
 pub mod PointThree
+pub mod NextPrefix

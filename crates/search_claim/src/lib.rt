@@ -1,1 +1,1 @@
-// Point 3: no code, its proof alone.
+// The claims of the search: no code, their proofs alone.

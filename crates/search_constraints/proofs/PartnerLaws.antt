@@ -27,7 +27,7 @@ use Rattle.relation_links.specs.Compiled.{Compiled}
 use Rattle.relation_links.proofs.LinkLaws.{operation-role, operation-of}
 use Rattle.relation_links.proofs.CompiledLaws.{operation-there, owner-there}
 use Rattle.search_admit.specs.Rows.{partner}
-use Rattle.search_constraints.specs.Rows.{remotesFrom, partnerOf, partnerAt}
+use Rattle.search_constraints.specs.Rows.{remotesFrom, partnerOf}
 
 -- an operation has the number of its instruction's role
 pub operation-number : (e : model.Execution) (a : Operation) → List·Memᴰ a (allOperations e) → a .number ≡ numberOf (a .instruction) (a .role)
@@ -101,9 +101,9 @@ module _ (marks role first processors a : ℕ) where
 -- the tables of an execution
 module _ {x : Execution} {t : Operations} {marks : List (List ℕ)} (h : Compiled x t marks) (accepted : Accepted (executionOf x)) where
   -- an operation of the execution has a number below N
-  number-below : (a : Operation) → List·Memᴰ a (allOperations (executionOf x)) → a .number < t .count
+  number-there : (a : Operation) → List·Memᴰ a (allOperations (executionOf x)) → a .number < t .count
   unfolding tableOf operationAt
-  number-below a m =
+  number-there a m =
       let (k, mk, q) = Memᴰ·of-map (operationAt (x .instructions) t) (below (t .count)) (subst (List·Memᴰ a) (sym (h .tabled .holds)) m) in
       subst (λ (n : ℕ). n < t .count) (ap (λ (o : Operation). o .number) q) (of-below (t .count) mk)
 
@@ -141,20 +141,26 @@ module _ {x : Execution} {t : Operations} {marks : List (List ℕ)} (h : Compile
       pub remotes-fit : (q : ℕ) → q < x .processors → suc (getD (x .instructions .firsts) (getD (t .owners) o 0) 0) + q < 128
       unfolding executionOf instructionAt
       remotes-fit q l =
-          omega (arith, number-below _ (RV-in (executionOf x) owner-store q l), h .tabled .counts, accepted .operations-few)
+          omega (arith, number-there _ (RV-in (executionOf x) owner-store q l), h .tabled .counts, accepted .operations-few)
 
     same-remotes : remotesFrom (getD (x .instructions .firsts) (getD (t .owners) o 0) 0) (x .processors) ≡ remoteOf (executionOf x) owner
     unfolding remotesFrom remoteOf everyProcessor executionOf instructionAt
     same-remotes = refl
 
     module _ (a : ℕ) where
-      abbrev asked : Instruction → Bool
-      asked w =
+      -- what the tables say of o and a
+      abbrev byTables : Bool
+      byTables =
+          partnerOf (markAt marks (getD (t .owners) o 0) (getD (t .owners) o 0)) (getD (t .roles) o 0)
+          (getD (x .instructions .firsts) (getD (t .owners) o 0) 0) (x .processors) a
+
+      abbrev atomicWith : Instruction → Bool
+      atomicWith w =
           isRelease (w .kind) && inWB (executionOf x) w && (member (remoteOf (executionOf x) w) o && member (remoteOf (executionOf x) w) a)
 
       -- by the tables: o's instruction is an st.rel to WB, and o one of its RVs
-      tables-say : partnerAt x t marks o a ≡ true → partner x o a ≡ true
-      unfolding partnerAt partnerOf partner
+      tables-say : byTables ≡ true → partner x o a ≡ true
+      unfolding partnerOf partner
       tables-say k =
           let (k1, k2) = and-parts _ _ k in
           let (mark, k3) = and-parts _ _ k2 in
@@ -162,16 +168,16 @@ module _ {x : Execution} {t : Operations} {marks : List (List ℕ)} (h : Compile
           let (q, r) = remote-role (getD (t .roles) o 0) k1 in
           let l : q < executionOf x .processors = remote-below (executionOf x .processors) q (owner .kind) (subst (λ (s : Role). List·Memᴰ s (roles (executionOf x .processors) (owner .kind))) r role-in) in
           let n : numberOf owner (RV q) ≡ o = sym (number-is ∙ ap (numberOf owner) r) in
-          any-member asked (owner-store mark)
+          any-member atomicWith (owner-store mark)
           (and-both k4
           (and-both (subst (λ (b : ℕ). member (remoteOf (executionOf x) owner) b ≡ true) n (in-remotes (executionOf x) owner q l))
           (sym (ap (λ (s : List ℕ). member s a) same-remotes) ∙ k3)))
 
       -- by the rules: an st.rel to WB that has o among its RVs is o's instruction
-      rules-say : partner x o a ≡ true → partnerAt x t marks o a ≡ true
-      unfolding partnerAt partnerOf partner stores
+      rules-say : partner x o a ≡ true → byTables ≡ true
+      unfolding partnerOf partner stores
       rules-say k =
-          let (w, mw, k1) = any-witness asked (stores (executionOf x)) k in
+          let (w, mw, k1) = any-witness atomicWith (stores (executionOf x)) k in
           let (k2, k3) = and-parts (isRelease (w .kind) && inWB (executionOf x) w) _ k1 in
           let (k4, k5) = and-parts (member (remoteOf (executionOf x) w) o) _ k3 in
           let (q, l, n) = of-remotes (executionOf x) w o k4 in
@@ -185,5 +191,5 @@ module _ {x : Execution} {t : Operations} {marks : List (List ℕ)} (h : Compile
           (ap (λ (s : List ℕ). member s a) same-remotes ∙ subst (λ (i : Instruction). member (remoteOf (executionOf x) i) a ≡ true) same k5))
 
       -- the RVs of o's instruction, where o is one of them
-      pub partner-means : partnerAt x t marks o a ≡ partner x o a
-      partner-means = agree (partnerAt x t marks o a) (partner x o a) tables-say rules-say
+      pub partner-means : byTables ≡ partner x o a
+      partner-means = agree (byTables) (partner x o a) tables-say rules-say

@@ -13,7 +13,6 @@ use Rattle.base.proofs.Bools.{eqb-swap}
 use Rattle.base.proofs.Lists.{below-more, member-append}
 use Rattle.base.proofs.Tests.{any-below-and}
 use Rattle.search_sets.specs.Set.{holds}
-use Rattle.search_sets.proofs.Members.{holds-none}
 use Rattle.relation_marks.specs.Marks.{hasMark}
 use Rattle.search_admit.specs.Rows.{awaitedBy}
 use Rattle.search_constraints.specs.Rows.{remotesFrom}
@@ -32,26 +31,6 @@ remotes-more first q a =
     ∙ ap (λ (l : List ℕ). member l a) (map-append (λ (k : ℕ). suc first + k) (below q) (q ∷ []))
     ∙ member-append (map (λ (k : ℕ). suc first + k) (below q)) (suc first + q) a
     ∙ ap (λ (t : Bool). member (map (λ (k : ℕ). suc first + k) (below q)) a || t) (eqb-swap (suc first + q) a ∙ ap (eqb a) (omega arith)))
-
--- The invariant: the set has what some number below i adds.
-pub record Added (n : ℕ) (p : ℕ → ℕ → Bool) (i lo hi : ℕ) : Type 0 where
-  pub few : i ≤ n
-  pub adds : (a : ℕ) → a < 128 → holds lo hi a ≡ anyBelow i (λ v. p v a)
-
-pub adds-none : {n : ℕ} {p : ℕ → ℕ → Bool} → Added n p 0 0 0
-unfolding anyBelow
-adds-none = record { few = omega arith; adds = λ a l. holds-none a }
-
-pub adds-more : {n i lo hi : ℕ} {p : ℕ → ℕ → Bool} → Added n p i lo hi → i < n → (lo' hi' : ℕ) → ((a : ℕ) → a < 128 → holds lo' hi' a ≡ (holds lo hi a || p i a))
-    → Added n p (i + 1) lo' hi'
-unfolding anyBelow
-adds-more {n} {i} {lo} {hi} {p} inv l lo' hi' f = record {
-  few = omega arith;
-  adds = λ a s. f a s ∙ ap (λ (b : Bool). b || p i a) (inv .adds a s) ∙ sym (ap (λ (k : ℕ). anyBelow k (λ v. p v a)) (add-one i));
-}
-
-pub added : {n i lo hi : ℕ} {p : ℕ → ℕ → Bool} → Added n p i lo hi → n ≤ i → (a : ℕ) → a < 128 → holds lo hi a ≡ anyBelow n (λ v. p v a)
-added {n} {i} {lo} {hi} {p} inv l a s = inv .adds a s ∙ ap (λ (k : ℕ). anyBelow k (λ v. p v a)) (let z : i ≡ n = omega (arith, inv .few) in z)
 
 -- the ways out of adding an operation that may be waited for
 module _ (lo hi marks role first processor a : ℕ) where

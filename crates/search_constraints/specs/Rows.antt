@@ -7,9 +7,7 @@ use lib.Dec.{eqb, leb, ltb}
 use Rattle.base.specs.Lists.{below, member}
 use Rattle.model.specs.Execution.{Kind, kindOf, isStore, F, RV, roles}
 use Rattle.record_decoded.specs.Kinds.{roleNumbered}
-use Rattle.record_decoded.specs.declared.types.Execution.{Execution}
 use Rattle.relation_marks.specs.Marks.{hasMark, atomicMark, markAt}
-use Rattle.relation_links.specs.declared.operations.Operations.{Operations}
 use Rattle.relation_links.specs.Linked.{linkedBy}
 
 -- the numbers of the RVs of a store, by that of its LV
@@ -19,12 +17,6 @@ remotesFrom first processors = map (λ q. suc first + q) (below processors)
 -- an operation with a role is an RV of an st.rel to WB, by the marks of its instruction, and a is one of the RVs
 unfoldable pub partnerOf : ℕ → ℕ → ℕ → ℕ → ℕ → Bool
 partnerOf marks role first processors a = not (ltb role 3) && (hasMark marks atomicMark && member (remotesFrom first processors) a)
-
--- operation o is an RV of an st.rel to WB, and a is one of its RVs
-unfoldable pub partnerAt : Execution → Operations → List (List ℕ) → ℕ → ℕ → Bool
-partnerAt x t marks o a =
-    partnerOf (markAt marks (getD (t .owners) o 0) (getD (t .owners) o 0)) (getD (t .roles) o 0)
-    (getD (x .instructions .firsts) (getD (t .owners) o 0) 0) (x .processors) a
 
 -- Links to an operation with a role from those of an instruction of processor p, by the marks of the two and the number of its first operation
 
@@ -46,7 +38,7 @@ linkedOf every kinds firsts processors marks w role v a =
     linkedFrom (markAt marks v w) (kindOf (getD kinds v 0)) (getD processors v 0) (getD firsts v 0) every role a
 
 -- instruction v is a store of w's processor to its line
-abbrev pub besideBy : List ℕ → List ℕ → List ℕ → ℕ → ℕ → Bool
-besideBy kinds processors addresses w v =
+abbrev pub storesToLineBy : List ℕ → List ℕ → List ℕ → ℕ → ℕ → Bool
+storesToLineBy kinds processors addresses w v =
     isStore (kindOf (getD kinds v 0))
     && (eqb (getD processors v 0) (getD processors w 0) && eqb (getD addresses v 0 / 8) (getD addresses w 0 / 8))

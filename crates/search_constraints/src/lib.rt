@@ -12,7 +12,7 @@ ghost use Rattle.search_sets.specs.Set.{holds};
 ghost use Rattle.base.specs.Below.{anyBelow};
 ghost use Rattle.search_admit.specs.Rows.{awaitedBy};
 ghost use Rattle.relation_links.specs.Linked.{linkedBy};
-ghost use Rattle.search_constraints.specs.Rows.{remotesFrom, partnerOf, remoteLinked, linkedFrom, linkedOf, besideBy};
+ghost use Rattle.search_constraints.specs.Rows.{remotesFrom, partnerOf, remoteLinked, linkedFrom, linkedOf, storesToLineBy};
 use record_decoded::kind::ROLE_R;
 use record_decoded::kind::ROLE_RV;
 use record_decoded::kind::is_store;
@@ -201,7 +201,7 @@ pub fn awaited_at<'a>(
 }
 
 // Whether an instruction is a store of a processor to a line.
-fn is_beside(kind: u8, processor: u8, address: u8, own: u8, line: u8) -> bool
+fn stores_to_line(kind: u8, processor: u8, address: u8, own: u8, line: u8) -> bool
     ensures { λ r. ⌜ r ≡ (isStore (kindOf kind) && (eqb processor own && eqb (address / 8) line)) ⌝ }
 {
     both(
@@ -221,7 +221,7 @@ pub fn bypasses_at<'a>(
     role: u8,
 ) -> Set
     requires { ⌜ (n ≤ 40) × (w < 40) ⌝ }
-    ensures { λ r. ⌜ ((a : ℕ) → a < 128 → holds (r .lo) (r .hi) a ≡ anyBelow n (λ (v : ℕ). eqb role 0 && (besideBy (now (kinds .entry)) (now (processors .entry)) (now (addresses .entry)) w v && eqb a (1 + getD (now (firsts .entry)) v 0 + getD (now (processors .entry)) v 0)))) ⌝ }
+    ensures { λ r. ⌜ ((a : ℕ) → a < 128 → holds (r .lo) (r .hi) a ≡ anyBelow n (λ (v : ℕ). eqb role 0 && (storesToLineBy (now (kinds .entry)) (now (processors .entry)) (now (addresses .entry)) w v && eqb a (1 + getD (now (firsts .entry)) v 0 + getD (now (processors .entry)) v 0)))) ⌝ }
 {
     let mut set = Set { lo: 0, hi: 0 };
     if role != ROLE_R {
@@ -231,7 +231,7 @@ pub fn bypasses_at<'a>(
     let line = addresses[w] / 8;
     for v in 0..n {
         let processor = processors[v];
-        let beside = is_beside(kinds[v], processor, addresses[v], own, line);
+        let beside = stores_to_line(kinds[v], processor, addresses[v], own, line);
         let number = 1 + wide16(firsts[v]) + wide(processor);
         set = insert_if(set, number, beside);
     }

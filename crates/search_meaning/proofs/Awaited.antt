@@ -23,7 +23,7 @@ use Rattle.relation_marks.specs.Marks.{hasMark, markAt}
 use Rattle.search_admit.specs.Rows.{ownOf, localOf, awaited, awaitedBy, awaitedOf, writes}
 use Rattle.search_admit.specs.Fits.{Standing, waitsFor, refused}
 use Rattle.search_reduction.proofs.Ownership.{store-processor}
-use Rattle.search_meaning.proofs.Tables.{Tables, RowsMean}
+use Rattle.search_meaning.proofs.Tables.{Tables, TablesMean}
 use Rattle.search_meaning.proofs.Owners.{number-is, role-RV}
 use Rattle.search_meaning.proofs.OperationRows.{RV-writes, IsRV, is-RV, own-by, local-by, own-itself, local-itself}
 use Rattle.search_meaning.proofs.Refusals.{missingBy, storeLost, loadLost, refusesBy, refusedBy}
@@ -110,7 +110,7 @@ load-same places fv pv m x em absent =
     same false true = refl
     same false false = refl
 
-module _ {t : Tables} (h : RowsMean t) (accepted : Accepted (executionOf (t .execution))) (x : ℕ) (low : x < operations (executionOf (t .execution)))
+module _ {t : Tables} (h : TablesMean t) (accepted : Accepted (executionOf (t .execution))) (x : ℕ) (low : x < operations (executionOf (t .execution)))
     {xs places : List ℕ} {n : ℕ} (p : Placed n xs places) (new : member xs x ≡ false) (lo hi : ℕ) (standing : Standing xs lo hi) where
   abbrev e : model.Execution
   e = executionOf (t .execution)

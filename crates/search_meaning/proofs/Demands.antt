@@ -28,7 +28,7 @@ use Rattle.search_reduction.specs.Admits.{ownDemands, remoteDemands, bypassDema
 use Rattle.search_reduction.proofs.Settled.{before-absent}
 use Rattle.search_reduction.proofs.Pairs.{pair-passes, passing-pair}
 use Rattle.search_reduction.proofs.Ownership.{is-store, is-load, R-role, RV-role, store-processor, processor-in, in-processors}
-use Rattle.search_meaning.proofs.Tables.{Tables, RowsMean}
+use Rattle.search_meaning.proofs.Tables.{Tables, TablesMean}
 use Rattle.search_meaning.proofs.Refusals.{missingBy, storeLost, loadLost, refusesBy, refusedBy}
 use Rattle.search_meaning.proofs.Owners.{number-R, number-RV, role-R, role-RV, role-in, number-is, owner-is, by-number, numbered-in}
 
@@ -50,7 +50,7 @@ or-parts : (a b : Bool) → (a || b) ≡ true → (a ≡ true) ⊎ (b ≡ true)
 or-parts true b h = inl refl
 or-parts false b h = inr h
 
-module _ {t : Tables} (h : RowsMean t) (accepted : Accepted (executionOf (t .execution))) (x : ℕ) (low : x < operations (executionOf (t .execution)))
+module _ {t : Tables} (h : TablesMean t) (accepted : Accepted (executionOf (t .execution))) (x : ℕ) (low : x < operations (executionOf (t .execution)))
     {xs places : List ℕ} {n : ℕ} (p : Placed n xs places) (new : member xs x ≡ false) where
   abbrev e : model.Execution
   e = executionOf (t .execution)

@@ -24,7 +24,7 @@ use Rattle.search_reduction.proofs.Settled.{before-absent}
 use Rattle.search_reduction.proofs.Links.{kept}
 use Rattle.search_reduction.proofs.Ownership.{RV-role, in-processors, is-store, RV-in, one-owner}
 use Rattle.search_admit.specs.Rows.{partner, partnerBy}
-use Rattle.search_meaning.proofs.Tables.{Tables, RowsMean}
+use Rattle.search_meaning.proofs.Tables.{Tables, TablesMean}
 use Rattle.search_meaning.proofs.Owners.{number-low}
 use Rattle.search_admit.specs.Fits.{lastEntry, dueOf, Standing}
 use Rattle.search_admit.proofs.FitLaws.{last-more}
@@ -119,7 +119,7 @@ module _ (e : model.Execution) where
     interrupts-by release none ma here mc misses =
         and-both (and-both (and-both release (ap not none)) (any-member (member xs) ma here)) (any-member (missing e x xs) mc (ap not misses))
 
-module _ {t : Tables} (h : RowsMean t) (accepted : Accepted (executionOf (t .execution))) where
+module _ {t : Tables} (h : TablesMean t) (accepted : Accepted (executionOf (t .execution))) where
   abbrev e : model.Execution
   e = executionOf (t .execution)
 
@@ -212,7 +212,7 @@ module _ {t : Tables} (h : RowsMean t) (accepted : Accepted (executionOf (t .exe
       clash here refl)))
 
 -- the test by the partners of the last entry is rule 12
-pub due-is : {t : Tables} → RowsMean t → Accepted (executionOf (t .execution)) → (x : ℕ) → x < operations (executionOf (t .execution))
+pub due-is : {t : Tables} → TablesMean t → Accepted (executionOf (t .execution)) → (x : ℕ) → x < operations (executionOf (t .execution))
     → (xs : List ℕ) (lo hi : ℕ) → consistent (executionOf (t .execution)) xs ≡ true → distinct (operations (executionOf (t .execution))) [] xs ≡ true
     → Standing xs lo hi → member xs x ≡ false
     → dueOf (t .rows) xs lo hi x ≡ not (any (interrupts (executionOf (t .execution)) x xs) (stores (executionOf (t .execution))))

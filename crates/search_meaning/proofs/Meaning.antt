@@ -13,7 +13,7 @@ use Rattle.record_decoded.specs.Decoded.{executionOf}
 use Rattle.relation_places.specs.Places.{Placed}
 use Rattle.search_reduction.specs.Admits.{ownDemands, remoteDemands, bypassDemands, sights, unready, interrupts, lost, unseen, admits}
 use Rattle.search_reduction.proofs.Reduction.{admits-more}
-use Rattle.search_meaning.proofs.Tables.{Tables, RowsMean}
+use Rattle.search_meaning.proofs.Tables.{Tables, TablesMean}
 use Rattle.search_admit.specs.Rows.{wordsAfter}
 use Rattle.search_admit.specs.Fits.{dueOf, fitsBy, Standing, Tested}
 use Rattle.search_sets.specs.Set.{holds}
@@ -23,7 +23,7 @@ use Rattle.search_meaning.proofs.Awaited.{awaited-refuse}
 use Rattle.search_meaning.proofs.Sees.{reads-is}
 use Rattle.search_meaning.proofs.Due.{due-is}
 
-module _ {t : Tables} (h : RowsMean t) (accepted : Accepted (executionOf (t .execution))) where
+module _ {t : Tables} (h : TablesMean t) (accepted : Accepted (executionOf (t .execution))) where
   -- an operation that does not stand
   not-standing : (xs places : List ℕ) (lo hi x : ℕ) → consistent (executionOf (t .execution)) xs ≡ true → Placed (operations (executionOf (t .execution))) xs places
       → Standing xs lo hi → x < operations (executionOf (t .execution)) → member xs x ≡ false

@@ -13,14 +13,14 @@ use Rattle.model.specs.Accepted.{Accepted}
 use Rattle.record_decoded.specs.Decoded.{instructionAt, executionOf}
 use Rattle.search_reduction.proofs.Ownership.{is-store, RV-in, RV-role}
 use Rattle.search_admit.specs.Rows.{ownOf, localOf, writes}
-use Rattle.search_meaning.proofs.Tables.{Tables, RowsMean}
+use Rattle.search_meaning.proofs.Tables.{Tables, TablesMean}
 use Rattle.search_meaning.proofs.Owners.{number-RV, owner-is, number-low}
 
 -- an RV writes
 pub RV-writes : (k : ℕ) → 3 ≤ k → writes k ≡ true
 RV-writes k h = ap (λ (b : Bool). eqb k 1 || b) (le-leb 3 k h) ∙ or-true (eqb k 1)
 
-module _ {t : Tables} (h : RowsMean t) (accepted : Accepted (executionOf (t .execution))) where
+module _ {t : Tables} (h : TablesMean t) (accepted : Accepted (executionOf (t .execution))) where
   abbrev e : model.Execution
   e = executionOf (t .execution)
 

@@ -16,7 +16,7 @@ use Rattle.relation_links.specs.Operations.{operationAt, tableOf}
 use Rattle.relation_links.proofs.LinkLaws.{operation-role, operation-of}
 use Rattle.relation_links.proofs.CompiledLaws.{operation-there}
 use Rattle.search_reduction.proofs.Ownership.{one-owner}
-use Rattle.search_meaning.proofs.Tables.{Tables, RowsMean}
+use Rattle.search_meaning.proofs.Tables.{Tables, TablesMean}
 
 -- a role by its number
 pub number-R : (k : ℕ) → roleNumbered k ≡ R → k ≡ 0
@@ -59,7 +59,7 @@ module _ (p : ℕ) (i : Instruction) where
   one-role st-rel mr ms e = of-store (List·Memᴰ·cases-cons mr) (List·Memᴰ·cases-cons ms) e
   one-role mf mr ms e = List·Memᴰ·eq-of-singleton mr ∙ sym (List·Memᴰ·eq-of-singleton ms)
 
-module _ {t : Tables} (h : RowsMean t) (accepted : Accepted (executionOf (t .execution))) (x : ℕ) (low : x < operations (executionOf (t .execution))) where
+module _ {t : Tables} (h : TablesMean t) (accepted : Accepted (executionOf (t .execution))) (x : ℕ) (low : x < operations (executionOf (t .execution))) where
   abbrev e : model.Execution
   e = executionOf (t .execution)
 
@@ -113,7 +113,7 @@ unfolding executionOf instructionsOf
 numbered-in t k l = Memᴰ·map (instructionAt (t .execution .instructions)) (in-below (t .execution .instructions .count) k l)
 
 -- the number of an operation is below their count
-pub number-low : {t : Tables} → RowsMean t → {a : model.Operation} → List·Memᴰ a (allOperations (executionOf (t .execution))) → a .number < operations (executionOf (t .execution))
+pub number-low : {t : Tables} → TablesMean t → {a : model.Operation} → List·Memᴰ a (allOperations (executionOf (t .execution))) → a .number < operations (executionOf (t .execution))
 unfolding tableOf operationAt
 number-low {t} h {a} m =
     let (k, mk, q) = Memᴰ·of-map _ (below (t .operations .count)) (subst (List·Memᴰ a) (sym (h .compiled .tabled .holds)) m) in

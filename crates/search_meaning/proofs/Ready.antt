@@ -21,10 +21,10 @@ use Rattle.search_admit.specs.Rows.{precedes}
 use Rattle.search_reduction.specs.Admits.{missing, unready}
 use Rattle.search_reduction.proofs.Pairs.{any-is}
 use Rattle.search_reduction.proofs.Links.{any-links}
-use Rattle.search_meaning.proofs.Tables.{Tables, RowsMean}
+use Rattle.search_meaning.proofs.Tables.{Tables, TablesMean}
 use Rattle.search_admit.specs.Fits.{Standing}
 
-module _ {t : Tables} (h : RowsMean t) where
+module _ {t : Tables} (h : TablesMean t) where
   abbrev e : model.Execution
   e = executionOf (t .execution)
 

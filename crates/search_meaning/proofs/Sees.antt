@@ -25,7 +25,7 @@ use Rattle.search_reduction.proofs.Ownership.{each-in, is-store, is-load, R-rol
 use Rattle.search_sets.specs.Set.{holds}
 use Rattle.search_admit.specs.Rows.{bypasses, bypassOf, writtenBits, localOf, readBits, readData, visibleWord, ownWord, visibleAt, ownAt, covers, dataBit, firstWords, wordsAfter}
 use Rattle.search_admit.specs.Fits.{bothOrNeither, pending, localBit, readsRecorded, Standing}
-use Rattle.search_meaning.proofs.Tables.{Tables, RowsMean}
+use Rattle.search_meaning.proofs.Tables.{Tables, TablesMean}
 use Rattle.search_meaning.proofs.Owners.{number-R, role-R, role-in, owner-in, owner-is, number-is, by-number, numbered-in}
 use Rattle.search_meaning.proofs.OperationRows.{RV-writes, IsRV, is-RV}
 use Rattle.search_meaning.proofs.Bytes.{Within, same-byte, accesses-within, covers-is, data-is, byte-small, initial-at}
@@ -68,7 +68,7 @@ in-reach i b h =
     let (l, r) = and-parts (leb (i .address) b) (ltb b (i .address + i .size)) h in
     in-count (i .address) (i .size) b (leb-true (i .address) b l) (ltb-true b (i .address + i .size) r)
 
-module _ {t : Tables} (h : RowsMean t) (accepted : Accepted (executionOf (t .execution))) (x : ℕ) (low : x < operations (executionOf (t .execution)))
+module _ {t : Tables} (h : TablesMean t) (accepted : Accepted (executionOf (t .execution))) (x : ℕ) (low : x < operations (executionOf (t .execution)))
     (xs : List ℕ) (different : distinct (operations (executionOf (t .execution))) [] xs ≡ true) (lo hi : ℕ) (standing : Standing xs lo hi) where
   abbrev e : model.Execution
   e = executionOf (t .execution)

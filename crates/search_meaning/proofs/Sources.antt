@@ -19,7 +19,7 @@ use Rattle.record_decoded.specs.Kinds.{roleNumbered}
 use Rattle.record_decoded.specs.Decoded.{instructionAt, executionOf}
 use Rattle.search_admit.specs.Rows.{writtenBits, writtenData, writtenWord, visibleAt, ownAt, covers, dataBit, writes}
 use Rattle.search_reduction.proofs.Ownership.{each-in, is-store, LV-role, RV-role}
-use Rattle.search_meaning.proofs.Tables.{Tables, RowsMean}
+use Rattle.search_meaning.proofs.Tables.{Tables, TablesMean}
 use Rattle.search_meaning.proofs.Owners.{number-RV, role-RV, role-in, owner-in, owner-is, number-is}
 use Rattle.search_meaning.proofs.Demands.{role-few}
 use Rattle.search_meaning.proofs.OperationRows.{RV-writes}
@@ -57,7 +57,7 @@ RV-store p q st m = refl
 RV-store p q st-rel m = refl
 RV-store p q mf m = let z : _≡_ {A = ℕ} 0 1 = (let w = List·Memᴰ·eq-of-singleton m in cc) in absurd (omega arith)
 
-module _ {t : Tables} (h : RowsMean t) (accepted : Accepted (executionOf (t .execution))) where
+module _ {t : Tables} (h : TablesMean t) (accepted : Accepted (executionOf (t .execution))) where
   abbrev e : model.Execution
   e = executionOf (t .execution)
 

@@ -12,5 +12,5 @@ pub record Tables : Type 0 where
   pub rows : List ℕ
 
 -- the rows hold what they should
-abbrev pub RowsMean : Tables → Type 0
-RowsMean t = rows.RowsMean (t .execution) (t .operations) (t .marks) (t .rows)
+abbrev pub TablesMean : Tables → Type 0
+TablesMean t = rows.RowsMean (t .execution) (t .operations) (t .marks) (t .rows)

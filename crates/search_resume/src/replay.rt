@@ -3,8 +3,7 @@ ghost use mathlib.Core.Path.{_≡_};
 ghost use mathlib.Core.Bool.{true};
 ghost use mathlib.Core.List.{List, []};
 ghost use Prim.Native.Nat.{ℕ, _≤_};
-ghost use lib.ListN as ListN;
-ghost use lib.ListN.{take};
+ghost use lib.ListN.{length, take};
 ghost use Rattle.base.specs.Lists.{distinct};
 ghost use Rattle.search_admit.specs.Rows.{firstWords};
 ghost use Rattle.search_enabled.specs.Affects.{Affecting};
@@ -22,7 +21,7 @@ use search_walk::enter;
 
 // The words of memory before any operation.
 pub fn first_words(rows: &[u64]) -> [u64; 128]
-    requires { ⌜ ListN.length (now rows) ≡ 2304 ⌝ }
+    requires { ⌜ length (now rows) ≡ 2304 ⌝ }
     ensures { λ r. ⌜ r ≡ firstWords (now (rows .entry)) ⌝ }
 {
     let mut words = [0u64; 128];
@@ -44,11 +43,11 @@ pub fn first_level(n: usize, rows: &[u64; 2304], words: &[u64; 128]) -> [u64; 77
     levels
 }
 
-// Whether the first `length` entries, which differ, pass the tests; if so, their places, sets and words are made.
+// Whether the first `size` entries, which differ, pass the tests; if so, their places, sets and words are made.
 pub fn replay(
     n: usize,
     entries: &mut [u8; 128],
-    length: usize,
+    size: usize,
     places: &mut [u8; 128],
     levels: &mut [u64; 774],
     words: &mut [u64; 128],
@@ -56,12 +55,12 @@ pub fn replay(
     rows: &[u64; 2304],
     affected: &[u64; 256],
 ) -> bool
-    requires { ⌜ (n ≤ 128) × (length ≤ n) × (distinct n [] (take length (now entries)) ≡ true) × Kept n (now rows) (now entries) (now places) (now levels) (now words) (now replaced) 0 × Affecting n (now rows) (now affected) ⌝ }
-    requires { ⌜ (ListN.length (now entries) ≡ 128) × (ListN.length (now places) ≡ 128) × (ListN.length (now words) ≡ 128) ⌝ }
-    ensures { λ r. ⌜ Replayed n (now (rows .entry)) length (now (entries .entry)) r (now (entries .exit)) (now (places .exit)) (now (levels .exit)) (now (words .exit)) (now (replaced .exit)) ⌝ }
+    requires { ⌜ (n ≤ 128) × (size ≤ n) × (distinct n [] (take size (now entries)) ≡ true) × Kept n (now rows) (now entries) (now places) (now levels) (now words) (now replaced) 0 × Affecting n (now rows) (now affected) ⌝ }
+    requires { ⌜ (length (now entries) ≡ 128) × (length (now places) ≡ 128) × (length (now words) ≡ 128) ⌝ }
+    ensures { λ r. ⌜ Replayed n (now (rows .entry)) size (now (entries .entry)) r (now (entries .exit)) (now (places .exit)) (now (levels .exit)) (now (words .exit)) (now (replaced .exit)) ⌝ }
 {
     let mut j = 0;
-    while j < length {
+    while j < size {
         let x = wide(entries[j]);
         let candidates = at(levels, SETS * j + OPEN);
         if !has(candidates, x) {

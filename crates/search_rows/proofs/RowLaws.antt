@@ -24,7 +24,7 @@ use Rattle.search_sets.specs.Set.{holds}
 use Rattle.search_sets.proofs.Laws.{zero-has}
 use Rattle.search_admit.specs.Rows.{writes, visibleAt, ownAt, covers, dataBit, awaitedBy, RowOf}
 use Rattle.relation_marks.specs.Marks.{hasMark, markAt}
-use Rattle.search_constraints.specs.Rows.{partnerOf, partnerAt, linkedOf, besideBy}
+use Rattle.search_constraints.specs.Rows.{partnerOf, linkedOf, storesToLineBy}
 use Rattle.search_constraints.proofs.LinkedLaws.{preds-mean}
 use Rattle.search_constraints.proofs.PartnerLaws.{remotes-fit, partner-means}
 use Rattle.search_constraints.proofs.OwnedLaws.{each-linked}
@@ -93,7 +93,7 @@ module _ {x : Execution} {t : Operations} {marks : List (List ℕ)} (h : Compile
 
   abbrev bypassSome : ℕ → List ℕ → List ℕ → List ℕ → List ℕ → ℕ → ℕ → Bool
   bypassSome role ks fs ps from w a =
-      anyBelow (x .instructions .count) (λ v. eqb role 0 && (besideBy ks ps from w v && eqb a (1 + getD fs v 0 + getD ps v 0)))
+      anyBelow (x .instructions .count) (λ v. eqb role 0 && (storesToLineBy ks ps from w v && eqb a (1 + getD fs v 0 + getD ps v 0)))
 
   -- the same by the execution, of the operation's owner
   linked-lent : (w a : ℕ) → w ≡ owner → linkedSome role kinds firsts processors w a ≡ linkedSome role (x .instructions .kinds) (x .instructions .firsts) (x .instructions .processors) owner a
@@ -112,10 +112,6 @@ module _ {x : Execution} {t : Operations} {marks : List (List ℕ)} (h : Compile
       ap₂ (λ (ks fs : List ℕ). bypassSome role ks fs processors addresses w a) (lent .kinds-are) (lent .firsts-are)
       ∙ ap₂ (λ (ps from : List ℕ). bypassSome role (x .instructions .kinds) (x .instructions .firsts) ps from w a) (lent .processors-are) (lent .addresses-are)
       ∙ ap (λ (v : ℕ). bypassSome role (x .instructions .kinds) (x .instructions .firsts) (x .instructions .processors) (x .instructions .addresses) v a) iw
-
-  partner-by : (a : ℕ) → partnerOf (markAt marks owner owner) role (getD (x .instructions .firsts) owner 0) (x .processors) a ≡ partnerAt x t marks o a
-  unfolding partnerAt
-  partner-by a = refl
 
   -- the RVs of an st.rel to WB are operations
   pub partners-fit : (w first : ℕ) → w ≡ owner → first ≡ getD firsts w 0 → hasMark (markAt marks w w) 512 ≡ true → (q : ℕ) → q < x .processors → suc first + q < 128
@@ -143,7 +139,7 @@ module _ {x : Execution} {t : Operations} {marks : List (List ℕ)} (h : Compile
   row-by-role : RowIs role
   row-by-role row w first processor line iw isf ip il preds partners awaited bypasses bits written bits-are data-are writing wr r8 r9 r10 r11 r12 r13 r14 r15 r16 = record {
     preds-are = λ a l. preds a l ∙ linked-lent w a iw ∙ each-linked h o a ∙ preds-mean h accepted o a there ∙ ap (λ (n : ℕ). ltb a n && linked (executionOf x) (operationAt (x .instructions) t a) (operationAt (x .instructions) t o)) (h .tabled .counts);
-    partners-are = λ a l. partners a ∙ ap₂ (λ (v f : ℕ). partnerOf (markAt marks v v) role f (x .processors) a) iw first-is ∙ partner-by a ∙ partner-means h accepted o there a;
+    partners-are = λ a l. partners a ∙ ap₂ (λ (v f : ℕ). partnerOf (markAt marks v v) role f (x .processors) a) iw first-is ∙ partner-means h accepted o there a;
     awaited-are = λ a l. awaited a l ∙ awaited-lent w a iw;
     bypasses-are = λ a l. bypasses a l ∙ bypass-lent w a iw;
     writes-bits = λ i l. ap (λ (v : ℕ). bit v i) r8 ∙ wanted-bit writing (covers x w i) bits i (bits-are i l) ∙ ap₂ (λ (b : Bool) (v : ℕ). b && covers x v i) wr iw;

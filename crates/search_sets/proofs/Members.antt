@@ -4,13 +4,14 @@ use native.Mathlib.Omega.{arith}
 use native.Mathlib.Nat.{eq-or-lt-of-le}
 use native.Mathlib.Numerals.{add-one}
 use mathlib.Core.Path.{_≡_, refl, sym, ap, ap₂, _∙_}
-use mathlib.Core.Bool.{Bool, true, false, not, cond, _&&_, _||_, and-true, and-false, or-false}
+use mathlib.Core.Bool.{Bool, true, false, not, cond, _&&_, _||_, and-false, or-false, or-assoc}
 use mathlib.Core.Logic.{⊎-elim}
 use lib.Dec.{eqb, ltb}
-use borrow.Author.Tests.{ne-eqb, eqb-true, eqb-false, ltb-true, ltb-false, lt-ltb, le-ltb, not-true, not-false}
+use borrow.Author.Tests.{eq-eqb, ne-eqb, eqb-true, not-true, not-false}
 use Rattle.base.specs.Below.{anyBelow}
 use Rattle.base.specs.Bits.{bit}
-use Rattle.base.proofs.Bools.{agree, split}
+use Rattle.base.proofs.Bools.{agree, and-parts, and-both}
+use Rattle.base.proofs.Tests.{any-passes, some-at}
 use Rattle.search_sets.specs.Set.{holds, Lowest}
 use Rattle.search_sets.proofs.Laws.{zero-has}
 
@@ -70,44 +71,53 @@ module _ (lo hi : ℕ) (p : ℕ → Bool) where
   pub over-ends : {m : ℕ} → Over lo hi m → 128 ≤ m → anyBelow m (λ i. holds lo hi i && p i) ≡ anyBelow 128 (λ i. holds lo hi i && p i)
   over-ends o l = ap (λ (k : ℕ). anyBelow k (λ i. holds lo hi i && p i)) (omega (arith, o .within))
 
--- The invariant of a loop over numbers: what held at the start still holds, and storesToLine what passes below i.
-pub record Grown (start test now : ℕ → Bool) (i : ℕ) : Type 0 where
-  pub has : (k : ℕ) → k < 128 → now k ≡ (start k || (ltb k i && test k))
+-- The invariant of a loop over numbers: what held at the start still holds, and what the numbers below i add.
+pub record Grown (start : ℕ → Bool) (adds : ℕ → ℕ → Bool) (now : ℕ → Bool) (i : ℕ) : Type 0 where
+  pub has : (k : ℕ) → k < 128 → now k ≡ (start k || anyBelow i (λ v. adds v k))
 
-pub grown-starts : (start test : ℕ → Bool) → Grown start test start 0
-grown-starts start test = record { has = λ k l. sym (ap (λ (b : Bool). start k || (b && test k)) (le-ltb k 0 (omega arith)) ∙ or-false (start k)) }
+pub grown-starts : (start : ℕ → Bool) (adds : ℕ → ℕ → Bool) → Grown start adds start 0
+unfolding anyBelow
+grown-starts start adds = record { has = λ k l. sym (or-false (start k)) }
 
-module _ {start test now : ℕ → Bool} {i : ℕ} (g : Grown start test now i) where
-  -- the test of i taken in
-  pub grown-on : (now' : ℕ → Bool) {r : Bool} → r ≡ test i → ((k : ℕ) → k < 128 → now' k ≡ (now k || (r && eqb k i))) → Grown start test now' (i + 1)
-  grown-on now' {r} h f = record { has = λ k l. f k l ∙ ap (λ (b : Bool). b || (r && eqb k i)) (g .has k l) ∙ go k (eqb k i) refl }
-    where
-      here : (s a t : Bool) → a ≡ false → ((s || (a && t)) || t) ≡ (s || t)
-      here s a t e = rw e (ap (λ (u : Bool). u || t) (or-false s))
+module _ {start : ℕ → Bool} {adds : ℕ → ℕ → Bool} {now : ℕ → Bool} {i : ℕ} (g : Grown start adds now i) where
+  -- what i adds taken in
+  pub grown-more : (now' : ℕ → Bool) → ((k : ℕ) → k < 128 → now' k ≡ (now k || adds i k)) → Grown start adds now' (i + 1)
+  unfolding anyBelow
+  grown-more now' f = record {
+    has = λ k l. f k l ∙ ap (λ (b : Bool). b || adds i k) (g .has k l) ∙ or-assoc (start k) (anyBelow i (λ v. adds v k)) (adds i k)
+        ∙ sym (ap (λ (n : ℕ). start k || anyBelow n (λ v. adds v k)) (add-one i));
+  }
 
-      go : (k : ℕ) (b : Bool) → eqb k i ≡ b → ((start k || (ltb k i && test k)) || (r && b)) ≡ (start k || (ltb k (i + 1) && test k))
-      go k true e =
-          let q : k ≡ i = eqb-true k i e in
-          ap (λ (b : Bool). (start k || (ltb k i && test k)) || b) (ap (λ (b : Bool). b && true) (h ∙ ap test (sym q)) ∙ and-true (test k))
-          ∙ here (start k) (ltb k i) (test k) (le-ltb k i (omega arith))
-          ∙ ap (λ (b : Bool). start k || (b && test k)) (sym (lt-ltb k (i + 1) (omega arith)))
-      go k false e =
-          let q = eqb-false k i e in
-          ap (λ (b : Bool). (start k || (ltb k i && test k)) || b) (and-false r) ∙ or-false (start k || (ltb k i && test k))
-          ∙ ap (λ (b : Bool). start k || (b && test k))
-          (agree (ltb k i) (ltb k (i + 1)) (λ t. lt-ltb k (i + 1) (omega (arith, ltb-true k i t))) (λ t. lt-ltb k i (omega (arith, ltb-true k (i + 1) t, q))))
+  -- numbers that add nothing
+  grown-skips : (j : ℕ) → i ≤ j → ((v k : ℕ) → i ≤ v → v < j → adds v k ≡ false) → Grown start adds now j
+  grown-skips j l none = record { has = λ k s. g .has k s ∙ ap (λ (b : Bool). start k || b) (sym (any-skips (λ v. adds v k) i j l (λ v f h. none v k f h))) }
+
+-- all that the numbers below n add to the empty set
+pub grown-all : {adds : ℕ → ℕ → Bool} {now : ℕ → Bool} {n i : ℕ} → Grown (holds 0 0) adds now i → i ≤ n → n ≤ i → (k : ℕ) → k < 128 → now k ≡ anyBelow n (λ v. adds v k)
+grown-all {adds} {n = n} {i} g few all k l =
+    g .has k l ∙ ap₂ (λ (b : Bool) (j : ℕ). b || anyBelow j (λ v. adds v k)) (holds-none k) (let z : i ≡ n = omega arith in z)
+
+-- The same where each number that passes a test adds itself
+pub record Taken (start test now : ℕ → Bool) (i : ℕ) : Type 0 where
+  pub grown : Grown start (λ v k. test v && eqb k v) now i
+
+pub taken-starts : (start test : ℕ → Bool) → Taken start test start 0
+taken-starts start test = record { grown = grown-starts start (λ v k. test v && eqb k v) }
+
+any-itself : (test : ℕ → Bool) (k i : ℕ) → k < i → anyBelow i (λ v. test v && eqb k v) ≡ test k
+any-itself test k i l =
+    agree (anyBelow i (λ v. test v && eqb k v)) (test k)
+    (λ t. let (v, h, p) = some-at (λ v. test v && eqb k v) i t in let (a, b) = and-parts (test v) (eqb k v) p in ap test (eqb-true k v b) ∙ a)
+    (λ t. any-passes (λ v. test v && eqb k v) i k l (and-both t (eq-eqb k k refl)))
+
+module _ {start test now : ℕ → Bool} {i : ℕ} (g : Taken start test now i) where
+  pub taken-on : (now' : ℕ → Bool) {r : Bool} → r ≡ test i → ((k : ℕ) → k < 128 → now' k ≡ (now k || (r && eqb k i))) → Taken start test now' (i + 1)
+  taken-on now' h f = record { grown = grown-more (g .grown) now' (λ k l. f k l ∙ ap (λ (b : Bool). now k || (b && eqb k i)) h) }
 
   -- numbers that do not pass
-  pub grown-skips : (j : ℕ) → i ≤ j → ((k : ℕ) → i ≤ k → k < j → test k ≡ false) → Grown start test now j
-  grown-skips j l none = record { has = λ k s. g .has k s ∙ go k (ltb k i) refl }
-    where
-      go : (k : ℕ) (b : Bool) → ltb k i ≡ b → (start k || (b && test k)) ≡ (start k || (ltb k j && test k))
-      go k true e = ap (λ (b : Bool). start k || (b && test k)) (sym (lt-ltb k j (omega (arith, ltb-true k i e))))
-      go k false e =
-          split (ltb k j)
-          (λ t. ap (λ (b : Bool). start k || b) (sym (ap (λ (b : Bool). b && test k) t ∙ none k (ltb-false k i e) (ltb-true k j t))))
-          (λ f. ap (λ (b : Bool). start k || (b && test k)) (sym f))
+  pub taken-past : (j : ℕ) → i ≤ j → ((v : ℕ) → i ≤ v → v < j → test v ≡ false) → Taken start test now j
+  taken-past j l none = record { grown = grown-skips (g .grown) j l (λ v k f h. ap (λ (b : Bool). b && eqb k v) (none v f h)) }
 
   -- all are passed
-  pub grown-ends : (k : ℕ) → k < 128 → k < i → now k ≡ (start k || test k)
-  grown-ends k s l = g .has k s ∙ ap (λ (b : Bool). start k || (b && test k)) (lt-ltb k i l)
+  pub taken-ends : (k : ℕ) → k < 128 → k < i → now k ≡ (start k || test k)
+  taken-ends k s l = g .grown .has k s ∙ ap (λ (b : Bool). start k || b) (any-itself test k i l)

@@ -1,7 +1,6 @@
 // The walk: from a consistent prefix that is not full to the next one in lexicographic order.
 ghost use mathlib.Core.Path.{_≡_};
 ghost use Prim.Native.Nat.{_<_, _≤_};
-ghost use lib.ListN as ListN;
 ghost use lib.ListN.{length, getD, set, take};
 ghost use Rattle.search_admit.specs.Rows.{writtenWord, wordsWith};
 ghost use Rattle.search_enabled.specs.Affects.{Affecting};
@@ -40,7 +39,7 @@ fn add_level(
     affected: &[u64; 256],
     x: usize,
 )
-    requires { ⌜ (k < 128) × (x < 128) × (ListN.length (now levels) ≡ 774) ⌝ }
+    requires { ⌜ (k < 128) × (x < 128) × (length (now levels) ≡ 774) ⌝ }
     ensures { λ _. ⌜ Level (now (rows .entry)) (now (affected .entry)) (now (words .entry)) x k (now (levels .entry)) (now (levels .exit)) ⌝ }
 {
     let stand = insert(at(levels, SETS * k), x);
@@ -65,7 +64,7 @@ fn add_entry(
     affected: &[u64; 256],
     x: usize,
 )
-    requires { ⌜ (k < 128) × (x < 128) × (ListN.length (now position) ≡ 128) × (ListN.length (now places) ≡ 128) × (ListN.length (now levels) ≡ 774) × (ListN.length (now words) ≡ 128) × (ListN.length (now replaced) ≡ 128) ⌝ }
+    requires { ⌜ (k < 128) × (x < 128) × (length (now position) ≡ 128) × (length (now places) ≡ 128) × (length (now levels) ≡ 774) × (length (now words) ≡ 128) × (length (now replaced) ≡ 128) ⌝ }
     ensures { λ r. ⌜ (now (position .exit) ≡ set (now (position .entry)) k x) × (now (places .exit) ≡ set (now (places .entry)) x k) × (now (words .exit) ≡ wordsWith (now (rows .entry)) (now (words .entry)) x) × (now (replaced .exit) ≡ set (now (replaced .entry)) k (getD (now (words .entry)) (writtenWord (now (rows .entry)) x) 0)) × Level (now (rows .entry)) (now (affected .entry)) (now (words .exit)) x k (now (levels .entry)) (now (levels .exit)) ⌝ }
 {
     position[k] = x as u8;
@@ -86,7 +85,7 @@ pub fn enter(
     affected: &[u64; 256],
     x: usize,
 ) -> bool
-    requires { ⌜ (k < 128) × (x < 128) × (ListN.length (now position) ≡ 128) × (ListN.length (now places) ≡ 128) × (ListN.length (now words) ≡ 128) ⌝ }
+    requires { ⌜ (k < 128) × (x < 128) × (length (now position) ≡ 128) × (length (now places) ≡ 128) × (length (now words) ≡ 128) ⌝ }
     ensures { λ r. ⌜ Entered (now (rows .entry)) (now (affected .entry)) x k r (now (position .entry)) (now (places .entry)) (now (levels .entry)) (now (words .entry)) (now (replaced .entry)) (now (position .exit)) (now (places .exit)) (now (levels .exit)) (now (words .exit)) (now (replaced .exit)) ⌝ }
 {
     if is_refused(rows, places, at(levels, SETS * k), x) {
@@ -115,7 +114,7 @@ fn remove_entry(
     replaced: &[u64],
     rows: &[u64; 2304],
 ) -> usize
-    requires { ⌜ (k < ListN.length (now position)) × (k < ListN.length (now replaced)) × (getD (now position) k 0 < 128) × (ListN.length (now places) ≡ 128) × (ListN.length (now words) ≡ 128) ⌝ }
+    requires { ⌜ (k < length (now position)) × (k < length (now replaced)) × (getD (now position) k 0 < 128) × (length (now places) ≡ 128) × (length (now words) ≡ 128) ⌝ }
     ensures { λ r. ⌜ (r ≡ getD (now (position .entry)) k 0) × (now (places .exit) ≡ set (now (places .entry)) r 255) × (now (words .exit) ≡ set (now (words .entry)) (writtenWord (now (rows .entry)) r) (getD (now (replaced .entry)) k 0)) ⌝ }
 {
     let last = wide(position[k]);
@@ -124,12 +123,12 @@ fn remove_entry(
     last
 }
 
-// From the first `length` entries of the position. `levels` has the sets of its first j entries as level j, `places` the places of all entries, `words`
+// From the first `size` entries of the position. `levels` has the sets of its first j entries as level j, `places` the places of all entries, `words`
 // what they wrote, and `replaced` the word that each wrote over. The next candidate is the lowest that is open, and not refused.
 pub fn walk(
     n: usize,
     position: &mut [u8; 128],
-    length: usize,
+    size: usize,
     places: &mut [u8; 128],
     levels: &mut [u64; 774],
     words: &mut [u64; 128],
@@ -137,11 +136,11 @@ pub fn walk(
     rows: &[u64; 2304],
     affected: &[u64; 256],
 ) -> WalkAnswer
-    requires { ⌜ (n ≤ 128) × (length < n) × Kept n (now rows) (now position) (now places) (now levels) (now words) (now replaced) length × Affecting n (now rows) (now affected) ⌝ }
-    requires { ⌜ (ListN.length (now position) ≡ 128) × (ListN.length (now places) ≡ 128) × (ListN.length (now words) ≡ 128) ⌝ }
-    ensures { λ r. ⌜ Walked n (now (rows .entry)) (take length (now (position .entry))) r (now (position .exit)) (now (places .exit)) (now (levels .exit)) (now (words .exit)) (now (replaced .exit)) ⌝ }
+    requires { ⌜ (n ≤ 128) × (size < n) × Kept n (now rows) (now position) (now places) (now levels) (now words) (now replaced) size × Affecting n (now rows) (now affected) ⌝ }
+    requires { ⌜ (length (now position) ≡ 128) × (length (now places) ≡ 128) × (length (now words) ≡ 128) ⌝ }
+    ensures { λ r. ⌜ Walked n (now (rows .entry)) (take size (now (position .entry))) r (now (position .exit)) (now (places .exit)) (now (levels .exit)) (now (words .exit)) (now (replaced .exit)) ⌝ }
 {
-    let mut k = length;
+    let mut k = size;
     let mut c = 0;
     let mut candidates = at(levels, SETS * k + OPEN);
     let mut turn = 0;

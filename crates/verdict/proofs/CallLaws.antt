@@ -4,8 +4,7 @@ use native.Mathlib.Omega.{arith}
 use mathlib.Core.Path.{_≡_, refl, sym, ap, _∙_}
 use mathlib.Core.Bool.{Bool, true, false, cond, false≢true}
 use mathlib.Core.List.{List}
-use lib.ListN as ListN
-use lib.ListN.{drop, replicate, length-append}
+use lib.ListN.{length, drop, replicate, length-append}
 use Rattle.model.specs.Search.{Verdict, allowed, forbidden, unfinished}
 use Rattle.model.specs.Calls as calls
 use Rattle.model.specs.Calls.{Answer, says, refuses, searching, searchReply, searchCall}
@@ -21,7 +20,7 @@ is-unfinished (refuses q) h = absurd (false≢true h)
 
 -- what the calls so far came to
 abbrev total : Answer Verdict → ℕ → ℕ → List ℕ → calls.SearchReply
-total a steps length buffer = record { answer = a; steps = steps; length = length; buffer = buffer }
+total a steps size buffer = record { answer = a; steps = steps; length = size; buffer = buffer }
 
 -- a search that is finished is not called again
 finished : (bytes : List ℕ) (more : ℕ) (s : calls.SearchReply) → isUnfinished (s .answer) ≡ false → callOn bytes more s ≡ s
@@ -30,31 +29,31 @@ finished bytes zero s h = refl
 finished bytes (suc more) s h = ap (λ (t : Bool). cond t (callOn bytes more (callOnce bytes s)) s) h
 
 -- The position that a call leaves is no longer than the buffer
-reply-short : (saved : ℕ) (buffer : List ℕ) (a : Answer _) → saved ≤ ListN.length buffer → ListN.length ((searchReply saved buffer a) .buffer) ≡ ListN.length buffer
-    → (searchReply saved buffer a) .length ≤ ListN.length buffer
+reply-short : (saved : ℕ) (buffer : List ℕ) (a : Answer _) → saved ≤ length buffer → length ((searchReply saved buffer a) .buffer) ≡ length buffer
+    → (searchReply saved buffer a) .length ≤ length buffer
 unfolding searchReply
 reply-short saved buffer (refuses q) h e = h
 reply-short saved buffer (says o) h e =
-    omega (arith, e, length-append (o .position) (drop (ListN.length (o .position)) buffer))
+    omega (arith, e, length-append (o .position) (drop (length (o .position)) buffer))
 
 -- The invariant: what the calls that are left make of the calls so far is what all make.
-pub record Calling (bytes : List ℕ) (made steps length : ℕ) (buffer : List ℕ) : Type 0 where
+pub record Calling (bytes : List ℕ) (made steps size : ℕ) (buffer : List ℕ) : Type 0 where
   pub within : made ≤ 100
   pub few : steps ≤ made * 4_294_967_296
-  pub short : length ≤ 128
-  pub long : ListN.length buffer ≡ 128
-  pub decides : callOn bytes callLimit notCalled ≡ callOn bytes (100 - made) (total (says unfinished) steps length buffer)
+  pub short : size ≤ 128
+  pub long : length buffer ≡ 128
+  pub decides : callOn bytes callLimit notCalled ≡ callOn bytes (100 - made) (total (says unfinished) steps size buffer)
 
 pub calls-start : {bytes : List ℕ} → Calling bytes 0 0 0 (replicate 128 0)
 calls-start {bytes} = record { within = omega arith; few = omega arith; short = omega arith; long = refl; decides = refl }
 
-module _ {bytes : List ℕ} {made steps length : ℕ} {buffer : List ℕ} (inv : Calling bytes made steps length buffer)
-    (r : SearchReply) {left : List ℕ} (same : replyOf r left ≡ searchCall bytes buffer length callAllowance) (kept : ListN.length left ≡ ListN.length buffer) where
+module _ {bytes : List ℕ} {made steps size : ℕ} {buffer : List ℕ} (inv : Calling bytes made steps size buffer)
+    (r : SearchReply) {left : List ℕ} (same : replyOf r left ≡ searchCall bytes buffer size callAllowance) (kept : length left ≡ length buffer) where
   one-more : made < 100 → callOn bytes callLimit notCalled ≡ callOn bytes (100 - (made + 1)) (total (answerMeant (r .answer)) (steps + r .steps) (r .length) left)
   unfolding callOn callOnce
   one-more h =
       inv .decides
-      ∙ ap (λ (k : ℕ). callOn bytes k (total (says unfinished) steps length buffer)) (let z : 100 - made ≡ suc (100 - (made + 1)) = omega arith in z)
+      ∙ ap (λ (k : ℕ). callOn bytes k (total (says unfinished) steps size buffer)) (let z : 100 - made ≡ suc (100 - (made + 1)) = omega arith in z)
       ∙ ap (λ (q : calls.SearchReply). callOn bytes (100 - (made + 1)) (total (q .answer) (steps + q .steps) (q .length) (q .buffer))) (sym same)
 
   pub call-short : r .length ≤ 128
@@ -64,7 +63,7 @@ module _ {bytes : List ℕ} {made steps length : ℕ} {buffer : List ℕ} (inv :
         arith,
         inv .long,
         ap (λ (q : calls.SearchReply). q .length) same,
-        reply-short length buffer (searching bytes buffer length callAllowance) (omega (arith, inv .short, inv .long)) (ap (λ (q : calls.SearchReply). ListN.length (q .buffer)) (sym same) ∙ kept),
+        reply-short size buffer (searching bytes buffer size callAllowance) (omega (arith, inv .short, inv .long)) (ap (λ (q : calls.SearchReply). length (q .buffer)) (sym same) ∙ kept),
       )
 
   pub calls-turn : made < 100 → r .steps < 2 ^ 32 → isUnfinished (answerMeant (r .answer)) ≡ true → Calling bytes (made + 1) (steps + r .steps) (r .length) left
@@ -82,8 +81,8 @@ module _ {bytes : List ℕ} {made steps length : ℕ} {buffer : List ℕ} (inv :
   calls-stop h e =
       sym (one-more h ∙ finished bytes (100 - (made + 1)) (total (answerMeant (r .answer)) (steps + r .steps) (r .length) left) e)
 
-pub calls-spent : {bytes : List ℕ} {made steps length : ℕ} {buffer : List ℕ} → Calling bytes made steps length buffer → 100 ≤ made
-    → total (says unfinished) steps length buffer ≡ callOn bytes callLimit notCalled
+pub calls-spent : {bytes : List ℕ} {made steps size : ℕ} {buffer : List ℕ} → Calling bytes made steps size buffer → 100 ≤ made
+    → total (says unfinished) steps size buffer ≡ callOn bytes callLimit notCalled
 unfolding callOn
-calls-spent {bytes} {made} {steps} {length} {buffer} inv h =
-    sym (inv .decides ∙ ap (λ (k : ℕ). callOn bytes k (total (says unfinished) steps length buffer)) (let z : 100 - made ≡ 0 = omega arith in z))
+calls-spent {bytes} {made} {steps} {size} {buffer} inv h =
+    sym (inv .decides ∙ ap (λ (k : ℕ). callOn bytes k (total (says unfinished) steps size buffer)) (let z : 100 - made ≡ 0 = omega arith in z))

@@ -1,26 +1,26 @@
 -- Each turn takes in what one instruction adds.
 use native.Mathlib.Omega.{arith}
-use Prim.Native.Nat.{ℕ, _-_}
+use Prim.Native.Nat.{ℕ, _-_, _≤_}
 use mathlib.Core.Path.{ap₂, _∙_}
 use mathlib.Core.Bool.{_||_}
 use lib.ListN.{getD}
 use Rattle.relation_marks.specs.Marks.{markAt}
 use Rattle.search_sets.specs.Set.{holds}
+use Rattle.search_sets.proofs.Members.{Grown, grown-starts, grown-more, grown-all}
 use Rattle.search_admit.specs.Rows.{awaitedBy}
-use Rattle.search_constraints.proofs.SetLaws.{Added, adds-none, adds-more, added}
 use borrow.Author.Needs.{needs}
 use Rattle.search_constraints.proofs.awaited_at.Statement.{statement}
 use Rattle.search_constraints.proofs.awaited_at.Tie as tie
 
 abbrev Inv-loop : tie.InvT-loop
 Inv-loop n firsts processors marks w role set₀ v₀ set v =
-    Added n (λ u a. awaitedBy (markAt marks u w) role (getD firsts u 0) (getD processors u 0) a) v (set .lo) (set .hi)
+    (v ≤ n) × Grown (holds 0 0) (λ u a. awaitedBy (markAt marks u w) role (getD firsts u 0) (getD processors u 0) a) (holds (set .lo) (set .hi)) v
 
 abbrev μ-loop : tie.MeasureT-loop
 μ-loop n firsts processors marks w role set₀ v₀ set v = n - v
 
 loop-holds : tie.Need-loop-holds Inv-loop μ-loop
-loop-holds c = adds-none
+loop-holds c = (omega arith, grown-starts _ _)
 
 mul-wide16 : tie.Need-mul-wide16 Inv-loop μ-loop
 mul-wide16 c = search needs
@@ -62,13 +62,15 @@ loop-again : tie.Need-loop-again Inv-loop μ-loop
 loop-again c =
     let g = c .before .before .before .before .before .before .before .before .args in
     let s = c .before .before .before .before .before .before .before .loop .set in
-    let v = c .before .before .before .before .before .before .before .loop .v in
-    adds-more (c .before .before .before .before .before .before .before .loop .inv) (c .before .before .before .before .before .before .loop-test .taken) (c .with-awaited .result .lo) (c .with-awaited .result .hi)
-    (λ a l. c .with-awaited .ensures a l
-    ∙ ap₂ (λ (f p : ℕ). holds (s .lo) (s .hi) a || awaitedBy (markAt (g .marks .now) v (g .w)) (g .role) f p a) (c .before .before .before .before .wide16 .ensures .0) (c .before .before .wide .ensures .0))
+    let v = c .before .before .before .before .before .before .before .loop .v in (
+      omega (arith, c .before .before .before .before .before .before .loop-test .taken),
+      grown-more (c .before .before .before .before .before .before .before .loop .inv .1) _
+          (λ a l. c .with-awaited .ensures a l
+          ∙ ap₂ (λ (f p : ℕ). holds (s .lo) (s .hi) a || awaitedBy (markAt (g .marks .now) v (g .w)) (g .role) f p a) (c .before .before .before .before .wide16 .ensures .0) (c .before .before .wide .ensures .0)),
+    )
 
 returns : tie.Need-returns Inv-loop μ-loop
-returns c = added (c .before .loop .inv) (c .loop-test .left)
+returns c = grown-all (c .before .loop .inv .1) (c .before .loop .inv .0) (c .loop-test .left)
 
 pub awaited-at-spec : {M : Type 1} → statement M
 awaited-at-spec =

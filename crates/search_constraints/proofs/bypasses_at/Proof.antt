@@ -1,22 +1,22 @@
 -- Not an R; else each turn takes in the own RV of one store.
 use native.Mathlib.Omega.{arith}
-use Prim.Native.Nat.{ℕ, _+_, _-_, _/_}
+use Prim.Native.Nat.{ℕ, _+_, _-_, _/_, _≤_}
 use mathlib.Core.Path.{ap₂, _∙_}
 use mathlib.Core.Bool.{Bool, _&&_, _||_}
 use lib.ListN.{getD}
 use lib.Dec.{eqb}
 use Rattle.model.specs.Execution.{kindOf, isStore}
 use Rattle.search_sets.specs.Set.{holds}
-use Rattle.search_constraints.specs.Rows.{besideBy}
-use Rattle.search_sets.proofs.Members.{holds-none}
-use Rattle.search_constraints.proofs.SetLaws.{Added, adds-none, adds-more, added, bypass-R, bypass-none}
+use Rattle.search_constraints.specs.Rows.{storesToLineBy}
+use Rattle.search_sets.proofs.Members.{Grown, grown-starts, grown-more, grown-all, holds-none}
+use Rattle.search_constraints.proofs.SetLaws.{bypass-R, bypass-none}
 use borrow.Author.Needs.{needs}
 use Rattle.search_constraints.proofs.bypasses_at.Statement.{statement}
 use Rattle.search_constraints.proofs.bypasses_at.Tie as tie
 
 abbrev Inv-loop : tie.InvT-loop
 Inv-loop n kinds firsts processors addresses w role set₀ own line v₀ set v =
-    Added n (λ u a. isStore (kindOf (getD kinds u 0)) && (eqb (getD processors u 0) own && eqb (getD addresses u 0 / 8) line) && eqb a (1 + getD firsts u 0 + getD processors u 0)) v (set .lo) (set .hi)
+    (v ≤ n) × Grown (holds 0 0) (λ u a. isStore (kindOf (getD kinds u 0)) && (eqb (getD processors u 0) own && eqb (getD addresses u 0 / 8) line) && eqb a (1 + getD firsts u 0 + getD processors u 0)) (holds (set .lo) (set .hi)) v
 
 abbrev μ-loop : tie.MeasureT-loop
 μ-loop n kinds firsts processors addresses w role set₀ own line v₀ set v = n - v
@@ -24,7 +24,7 @@ abbrev μ-loop : tie.MeasureT-loop
 returns : tie.Need-returns Inv-loop μ-loop
 returns c = λ a l.
     let g = c .before .args in
-    bypass-none (g .n) (g .role) (λ v. besideBy (g .kinds .now) (g .processors .now) (g .addresses .now) (g .w) v && eqb a (1 + getD (g .firsts .now) v 0 + getD (g .processors .now) v 0)) 0 0 a (holds-none a) (c .if1 .taken)
+    bypass-none (g .n) (g .role) (λ v. storesToLineBy (g .kinds .now) (g .processors .now) (g .addresses .now) (g .w) v && eqb a (1 + getD (g .firsts .now) v 0 + getD (g .processors .now) v 0)) 0 0 a (holds-none a) (c .if1 .taken)
 
 element-copy-out-own : tie.Need-element-copy-out-own Inv-loop μ-loop
 element-copy-out-own c = search needs
@@ -33,19 +33,19 @@ element-copy-out-line : tie.Need-element-copy-out-line Inv-loop μ-loop
 element-copy-out-line c = search needs
 
 loop-holds : tie.Need-loop-holds Inv-loop μ-loop
-loop-holds c = adds-none
+loop-holds c = (omega arith, grown-starts _ _)
 
 element-copy-out-processor : tie.Need-element-copy-out-processor Inv-loop μ-loop
 element-copy-out-processor c = search needs
 
-element-copy-out-is-beside : tie.Need-element-copy-out-is-beside Inv-loop μ-loop
-element-copy-out-is-beside c = search needs
+element-copy-out-stores-to-line : tie.Need-element-copy-out-stores-to-line Inv-loop μ-loop
+element-copy-out-stores-to-line c = search needs
 
-element-copy-out-is-beside-2 : tie.Need-element-copy-out-is-beside-2 Inv-loop μ-loop
-element-copy-out-is-beside-2 c = search needs
+element-copy-out-stores-to-line-2 : tie.Need-element-copy-out-stores-to-line-2 Inv-loop μ-loop
+element-copy-out-stores-to-line-2 c = search needs
 
-is-beside-requires : tie.Need-is-beside-requires Inv-loop μ-loop
-is-beside-requires c κs = search needs
+stores-to-line-requires : tie.Need-stores-to-line-requires Inv-loop μ-loop
+stores-to-line-requires c κs = search needs
 
 mul-wide16 : tie.Need-mul-wide16 Inv-loop μ-loop
 mul-wide16 c = search needs
@@ -76,16 +76,18 @@ loop-less c = omega (arith, c .before .before .before .before .before .before .b
 
 loop-again : tie.Need-loop-again Inv-loop μ-loop
 loop-again c =
-    let s = c .before .before .before .before .before .before .before .before .before .loop .set in
-    adds-more (c .before .before .before .before .before .before .before .before .before .loop .inv) (c .before .before .before .before .before .before .before .before .loop-test .taken) (c .insert-if .result .lo) (c .insert-if .result .hi)
-    (λ a l. c .insert-if .ensures a l
-    ∙ ap₂ (λ (b : Bool) (k : ℕ). holds (s .lo) (s .hi) a || (b && eqb a k)) (c .before .before .before .before .is-beside .ensures) (ap₂ (λ (f p : ℕ). 1 + f + p) (c .before .before .wide16 .ensures .0) (c .before .wide .ensures .0)))
+    let s = c .before .before .before .before .before .before .before .before .before .loop .set in (
+      omega (arith, c .before .before .before .before .before .before .before .before .loop-test .taken),
+      grown-more (c .before .before .before .before .before .before .before .before .before .loop .inv .1) _
+          (λ a l. c .insert-if .ensures a l
+          ∙ ap₂ (λ (b : Bool) (k : ℕ). holds (s .lo) (s .hi) a || (b && eqb a k)) (c .before .before .before .before .stores-to-line .ensures) (ap₂ (λ (f p : ℕ). 1 + f + p) (c .before .before .wide16 .ensures .0) (c .before .wide .ensures .0))),
+    )
 
 returns-2 : tie.Need-returns-2 Inv-loop μ-loop
 returns-2 c = λ a l.
     let g = c .before .before .before .before .before .args in
-    added (c .before .loop .inv) (c .loop-test .left) a l
-    ∙ bypass-R (g .n) (g .role) (λ v. besideBy (g .kinds .now) (g .processors .now) (g .addresses .now) (g .w) v && eqb a (1 + getD (g .firsts .now) v 0 + getD (g .processors .now) v 0)) (c .before .before .before .before .if1 .left)
+    grown-all (c .before .loop .inv .1) (c .before .loop .inv .0) (c .loop-test .left) a l
+    ∙ bypass-R (g .n) (g .role) (λ v. storesToLineBy (g .kinds .now) (g .processors .now) (g .addresses .now) (g .w) v && eqb a (1 + getD (g .firsts .now) v 0 + getD (g .processors .now) v 0)) (c .before .before .before .before .if1 .left)
 
 pub bypasses-at-spec : {M : Type 1} → statement M
 bypasses-at-spec =
@@ -98,9 +100,9 @@ bypasses-at-spec =
     element-copy-out-line
     loop-holds
     element-copy-out-processor
-    element-copy-out-is-beside
-    element-copy-out-is-beside-2
-    is-beside-requires
+    element-copy-out-stores-to-line
+    element-copy-out-stores-to-line-2
+    stores-to-line-requires
     mul-wide16
     element-copy-out-wide16
     wide16-requires

@@ -1,27 +1,27 @@
 -- Each turn takes in the operations of one instruction more.
 use native.Mathlib.Omega.{arith}
-use Prim.Native.Nat.{ℕ, _-_}
+use Prim.Native.Nat.{ℕ, _-_, _≤_}
 use mathlib.Core.Path.{ap, _∙_}
 use mathlib.Core.Bool.{_||_}
 use lib.ListN.{getD}
 use Rattle.model.specs.Execution.{kindOf}
 use Rattle.relation_marks.specs.Marks.{markAt}
 use Rattle.search_sets.specs.Set.{holds}
+use Rattle.search_sets.proofs.Members.{Grown, grown-starts, grown-more, grown-all}
 use Rattle.search_constraints.specs.Rows.{linkedFrom, linkedOf}
-use Rattle.search_constraints.proofs.SetLaws.{Added, adds-none, adds-more, added}
 use borrow.Author.Needs.{needs}
 use Rattle.search_constraints.proofs.preds_at.Statement.{statement}
 use Rattle.search_constraints.proofs.preds_at.Tie as tie
 
 abbrev Inv-loop : tie.InvT-loop
 Inv-loop n every kinds firsts processors marks w role set₀ v₀ set v =
-    Added n (λ u a. linkedOf every kinds firsts processors marks w role u a) v (set .lo) (set .hi)
+    (v ≤ n) × Grown (holds 0 0) (λ u a. linkedOf every kinds firsts processors marks w role u a) (holds (set .lo) (set .hi)) v
 
 abbrev μ-loop : tie.MeasureT-loop
 μ-loop n every kinds firsts processors marks w role set₀ v₀ set v = n - v
 
 loop-holds : tie.Need-loop-holds Inv-loop μ-loop
-loop-holds c = adds-none
+loop-holds c = (omega arith, grown-starts _ _)
 
 mul-wide16 : tie.Need-mul-wide16 Inv-loop μ-loop
 mul-wide16 c = search needs
@@ -63,13 +63,15 @@ loop-again : tie.Need-loop-again Inv-loop μ-loop
 loop-again c =
     let g = c .before .before .before .before .before .before .before .before .args in
     let s = c .before .before .before .before .before .before .before .loop .set in
-    let v = c .before .before .before .before .before .before .before .loop .v in
-    adds-more (c .before .before .before .before .before .before .before .loop .inv) (c .before .before .before .before .before .before .loop-test .taken) (c .with-linked .result .lo) (c .with-linked .result .hi)
-    (λ a l. c .with-linked .ensures a l
-    ∙ ap (λ (f : ℕ). holds (s .lo) (s .hi) a || linkedFrom (markAt (g .marks .now) v (g .w)) (kindOf (getD (g .kinds .now) v 0)) (getD (g .processors .now) v 0) f (g .every) (g .role) a) (c .before .before .before .before .wide16 .ensures .0))
+    let v = c .before .before .before .before .before .before .before .loop .v in (
+      omega (arith, c .before .before .before .before .before .before .loop-test .taken),
+      grown-more (c .before .before .before .before .before .before .before .loop .inv .1) _
+          (λ a l. c .with-linked .ensures a l
+          ∙ ap (λ (f : ℕ). holds (s .lo) (s .hi) a || linkedFrom (markAt (g .marks .now) v (g .w)) (kindOf (getD (g .kinds .now) v 0)) (getD (g .processors .now) v 0) f (g .every) (g .role) a) (c .before .before .before .before .wide16 .ensures .0)),
+    )
 
 returns : tie.Need-returns Inv-loop μ-loop
-returns c = added (c .before .loop .inv) (c .loop-test .left)
+returns c = grown-all (c .before .loop .inv .1) (c .before .loop .inv .0) (c .loop-test .left)
 
 pub preds-at-spec : {M : Type 1} → statement M
 preds-at-spec =

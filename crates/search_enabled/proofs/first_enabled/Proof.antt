@@ -1,6 +1,6 @@
 -- One operation after the other.
 use Rattle.search_admit.specs.Fits.{enabled}
-use Rattle.search_sets.proofs.Members.{Grown, grown-starts, grown-on, grown-ends, holds-none}
+use Rattle.search_sets.proofs.Members.{Taken, taken-starts, taken-on, taken-ends, holds-none}
 use Rattle.search_sets.specs.Set.{holds}
 use mathlib.Core.Bool.{Bool, _||_}
 use mathlib.Core.Path.{ap, _∙_}
@@ -11,14 +11,14 @@ use Rattle.search_enabled.proofs.first_enabled.Statement.{statement}
 use Rattle.search_enabled.proofs.first_enabled.Tie as tie
 
 abbrev Inv-loop : tie.InvT-loop
-Inv-loop n rows words all₀ y₀ all y = (y ≤ n) × Grown (holds 0 0) (enabled rows 0 0 words) (holds (all .lo) (all .hi)) y
+Inv-loop n rows words all₀ y₀ all y = (y ≤ n) × Taken (holds 0 0) (enabled rows 0 0 words) (holds (all .lo) (all .hi)) y
 
 abbrev μ-loop : tie.MeasureT-loop
 μ-loop n rows words all₀ y₀ all y = n - y
 
 loop-holds : tie.Need-loop-holds Inv-loop μ-loop
 loop-holds c =
-    (omega arith, grown-starts _ _)
+    (omega arith, taken-starts _ _)
 
 is-enabled-first-requires : tie.Need-is-enabled-first-requires Inv-loop μ-loop
 is-enabled-first-requires c κs = search needs
@@ -36,12 +36,12 @@ loop-less c =
 loop-again : tie.Need-loop-again Inv-loop μ-loop
 loop-again c =
     let inv = c .before .before .before .loop .inv in
-    (omega (arith, c .before .before .loop-test .taken), grown-on (inv .1) _ (c .before .is-enabled-first .ensures) (c .insert-if .ensures))
+    (omega (arith, c .before .before .loop-test .taken), taken-on (inv .1) _ (c .before .is-enabled-first .ensures) (c .insert-if .ensures))
 
 returns : tie.Need-returns Inv-loop μ-loop
 returns c =
     λ y l.
-    grown-ends (c .before .loop .inv .1) y (omega (arith, c .before .before .pre)) (omega (arith, c .loop-test .left))
+    taken-ends (c .before .loop .inv .1) y (omega (arith, c .before .before .pre)) (omega (arith, c .loop-test .left))
     ∙ ap (λ (b : Bool). b || enabled (c .before .before .args .rows .now) 0 0 (c .before .before .args .words .now) y) (holds-none y)
 
 pub first-enabled-spec : {M : Type 1} → statement M

@@ -9,13 +9,13 @@ use mathlib.Core.Bool.{Bool, _&&_}
 use lib.Dec.{eqb}
 use lib.ListN.{length}
 use Rattle.search_sets.specs.Set.{holds, setAt}
-use Rattle.search_sets.proofs.Members.{Over, over, Grown, grown-starts, grown-on, grown-skips, grown-ends}
+use Rattle.search_sets.proofs.Members.{Over, over, Taken, taken-starts, taken-on, taken-past, taken-ends}
 use borrow.Author.Needs.{needs}
 use Rattle.search_enabled.proofs.put_affected.Statement.{statement}
 use Rattle.search_enabled.proofs.put_affected.Tie as tie
 
 abbrev Inv-loop : tie.InvT-loop
-Inv-loop affected₀ affecting y a₀ affected a = Over (affecting .lo) (affecting .hi) a × ((k : ℕ) → Grown (λ b. setAt affected₀ b k) (λ b. holds (affecting .lo) (affecting .hi) b && eqb k y) (λ b. setAt affected b k) a) × (length affected ≡ 256)
+Inv-loop affected₀ affecting y a₀ affected a = Over (affecting .lo) (affecting .hi) a × ((k : ℕ) → Taken (λ b. setAt affected₀ b k) (λ b. holds (affecting .lo) (affecting .hi) b && eqb k y) (λ b. setAt affected b k) a) × (length affected ≡ 256)
 
 abbrev μ-loop : tie.MeasureT-loop
 μ-loop affected₀ affecting y a₀ affected a = 128 - a
@@ -27,7 +27,7 @@ loop-holds : tie.Need-loop-holds Inv-loop μ-loop
 loop-holds c =
     let s = c .before .before .args .affecting in (
       over (s .lo) (s .hi) 0 (c .first .ensures),
-      λ k. grown-skips (grown-starts _ _) _ (omega arith) (λ b f g. ap (λ (t : Bool). t && eqb k (c .before .before .args .y)) (c .first .ensures .none b f g)),
+      λ k. taken-past (taken-starts _ _) _ (omega arith) (λ b f g. ap (λ (t : Bool). t && eqb k (c .before .before .args .y)) (c .first .ensures .none b f g)),
       c .before .before .pre .1,
     )
 
@@ -56,7 +56,7 @@ loop-again c =
     let y = c .before .before .before .before .before .before .before .before .before .before .before .before .args .y in
     let inv = c .before .before .before .before .before .before .before .before .before .loop .inv in (
       over (s .lo) (s .hi) _ (c .first2 .ensures),
-      λ k. grown-skips (grown-on (inv .1 k) _ (sym (ap (λ (t : Bool). t && eqb k y) (inv .0 .member (c .before .before .before .before .before .before .before .before .loop-test .taken))))
+      λ k. taken-past (taken-on (inv .1 k) _ (sym (ap (λ (t : Bool). t && eqb k y) (inv .0 .member (c .before .before .before .before .before .before .before .before .loop-test .taken))))
           (λ b l. ap (λ (t : List ℕ). setAt t b k) (c .before .before .before .put .ensures) ∙ affected-more (c .before .before .before .before .before .before .before .before .before .loop .affected) (c .before .before .before .before .before .before .before .before .before .loop .a) y (c .before .before .before .before .insert .result .lo) (c .before .before .before .before .insert .result .hi) (c .before .before .before .before .before .before .at .result .lo) (c .before .before .before .before .before .before .at .result .hi) k (inv .2) (c .before .before .before .before .before .before .before .before .loop-test .taken) (c .before .before .before .before .before .before .at .ensures .0) (c .before .before .before .before .before .before .at .ensures .1) (c .before .before .before .before .insert .ensures) b l)) _ (c .first2 .ensures .onward)
           (λ b f g. ap (λ (t : Bool). t && eqb k y) (c .first2 .ensures .none b f g)),
       ap length (c .before .before .before .put .ensures) ∙ put-length (c .before .before .before .before .before .before .before .before .before .loop .affected) (c .before .before .before .before .before .before .before .before .before .loop .a) (c .before .before .before .before .insert .result .lo) (c .before .before .before .before .insert .result .hi) ∙ inv .2,
@@ -67,7 +67,7 @@ same-length c = search needs
 
 returns : tie.Need-returns Inv-loop μ-loop
 returns c =
-    (λ a k l. grown-ends (c .before .loop .inv .1 k) a l (omega (arith, c .loop-test .left)), c .before .loop .inv .2)
+    (λ a k l. taken-ends (c .before .loop .inv .1 k) a l (omega (arith, c .loop-test .left)), c .before .loop .inv .2)
 
 pub put-affected-spec : {M : Type 1} → statement M
 put-affected-spec =

@@ -2,21 +2,21 @@
 use Prim.Native.Nat.{_-_, _≤_}
 use native.Mathlib.Omega.{arith}
 use Rattle.search_sets.specs.Set.{holds}
-use Rattle.search_sets.proofs.Members.{Grown, grown-starts, grown-on, grown-ends}
+use Rattle.search_sets.proofs.Members.{Taken, taken-starts, taken-on, taken-ends}
 use Rattle.search_enabled.specs.Affects.{writesWordOf}
 use borrow.Author.Needs.{needs}
 use Rattle.search_enabled.proofs.with_writers.Statement.{statement}
 use Rattle.search_enabled.proofs.with_writers.Tie as tie
 
 abbrev Inv-loop : tie.InvT-loop
-Inv-loop n rows y all₀ a₀ all a = (a ≤ n) × Grown (holds (all₀ .lo) (all₀ .hi)) (λ k. writesWordOf rows k y) (holds (all .lo) (all .hi)) a
+Inv-loop n rows y all₀ a₀ all a = (a ≤ n) × Taken (holds (all₀ .lo) (all₀ .hi)) (λ k. writesWordOf rows k y) (holds (all .lo) (all .hi)) a
 
 abbrev μ-loop : tie.MeasureT-loop
 μ-loop n rows y all₀ a₀ all a = n - a
 
 loop-holds : tie.Need-loop-holds Inv-loop μ-loop
 loop-holds c =
-    (omega arith, grown-starts _ _)
+    (omega arith, taken-starts _ _)
 
 writes-to-requires : tie.Need-writes-to-requires Inv-loop μ-loop
 writes-to-requires c κs = search needs
@@ -34,11 +34,11 @@ loop-less c =
 loop-again : tie.Need-loop-again Inv-loop μ-loop
 loop-again c =
     let inv = c .before .before .before .loop .inv in
-    (omega (arith, c .before .before .loop-test .taken), grown-on (inv .1) _ (c .before .writes-to .ensures) (c .insert-if .ensures))
+    (omega (arith, c .before .before .loop-test .taken), taken-on (inv .1) _ (c .before .writes-to .ensures) (c .insert-if .ensures))
 
 returns : tie.Need-returns Inv-loop μ-loop
 returns c =
-    λ a l. grown-ends (c .before .loop .inv .1) a (omega (arith, c .before .before .pre .0)) (omega (arith, c .loop-test .left))
+    λ a l. taken-ends (c .before .loop .inv .1) a (omega (arith, c .before .before .pre .0)) (omega (arith, c .loop-test .left))
 
 pub with-writers-spec : {M : Type 1} → statement M
 with-writers-spec =

@@ -11,11 +11,11 @@ use Rattle.search_walk.proofs.walk.Statement.{statement}
 use Rattle.search_walk.proofs.walk.Tie as tie
 
 abbrev Inv-loop : tie.InvT-loop
-Inv-loop n position₀ length places₀ levels₀ words₀ replaced₀ rows affected k₀ c₀ candidates₀ turn₀ position places levels words replaced k c candidates turn =
-    Search n rows (take length position₀) length position places levels words replaced (candidates .lo) (candidates .hi) k c turn
+Inv-loop n position₀ size places₀ levels₀ words₀ replaced₀ rows affected k₀ c₀ candidates₀ turn₀ position places levels words replaced k c candidates turn =
+    Search n rows (take size position₀) size position places levels words replaced (candidates .lo) (candidates .hi) k c turn
 
 abbrev μ-loop : tie.MeasureT-loop
-μ-loop n position₀ length places₀ levels₀ words₀ replaced₀ rows affected k₀ c₀ candidates₀ turn₀ position places levels words replaced k c candidates turn =
+μ-loop n position₀ size places₀ levels₀ words₀ replaced₀ rows affected k₀ c₀ candidates₀ turn₀ position places levels words replaced k c candidates turn =
     n * n - turn
 
 mul-at : tie.Need-mul-at Inv-loop μ-loop

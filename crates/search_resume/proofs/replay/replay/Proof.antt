@@ -9,12 +9,12 @@ use Rattle.search_resume.proofs.replay.replay.Statement.{statement}
 use Rattle.search_resume.proofs.replay.replay.Tie as tie
 
 abbrev Inv-loop : tie.InvT-loop
-Inv-loop n entries₀ length places₀ levels₀ words₀ replaced₀ rows affected j₀ entries places levels words replaced j =
-    Replaying n rows length entries₀ entries places levels words replaced j
+Inv-loop n entries₀ size places₀ levels₀ words₀ replaced₀ rows affected j₀ entries places levels words replaced j =
+    Replaying n rows size entries₀ entries places levels words replaced j
 
 abbrev μ-loop : tie.MeasureT-loop
-μ-loop n entries₀ length places₀ levels₀ words₀ replaced₀ rows affected j₀ entries places levels words replaced j =
-    length - j
+μ-loop n entries₀ size places₀ levels₀ words₀ replaced₀ rows affected j₀ entries places levels words replaced j =
+    size - j
 
 loop-holds : tie.Need-loop-holds Inv-loop μ-loop
 loop-holds c =

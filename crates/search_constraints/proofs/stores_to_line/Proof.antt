@@ -3,8 +3,8 @@ use mathlib.Core.Path.{ap, ap₂, _∙_}
 use mathlib.Core.Bool.{_&&_}
 use Rattle.model.specs.Execution.{isStore}
 use borrow.Author.Needs.{needs}
-use Rattle.search_constraints.proofs.is_beside.Statement.{statement}
-use Rattle.search_constraints.proofs.is_beside.Tie as tie
+use Rattle.search_constraints.proofs.stores_to_line.Statement.{statement}
+use Rattle.search_constraints.proofs.stores_to_line.Tie as tie
 
 kind-of-requires : tie.Need-kind-of-requires
 kind-of-requires c κs = search needs
@@ -21,6 +21,6 @@ both-requires-2 c κs = search needs
 returns : tie.Need-returns
 returns c = c .both2 .ensures ∙ ap₂ _&&_ (c .before .before .is-store .ensures ∙ ap isStore (c .before .before .before .kind-of .ensures)) (c .before .both .ensures)
 
-pub is-beside-spec : {M : Type 1} → statement M
-is-beside-spec =
+pub stores-to-line-spec : {M : Type 1} → statement M
+stores-to-line-spec =
     tie.close (tie.spec kind-of-requires is-store-requires both-requires both-requires-2 returns)

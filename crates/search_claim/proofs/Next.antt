@@ -1,0 +1,21 @@
+-- The walk gives the next consistent prefix.
+use mathlib.Core.Path.{_≡_}
+use mathlib.Core.Bool.{true}
+use Rattle.model.specs.Execution.{Execution}
+use Rattle.model.specs.Rules.{rules, consistent}
+use Rattle.model.proofs.Accepted.{read-accepted}
+use Rattle.model.proofs.Consistent.{keeps-shorter}
+use Rattle.record_decoded.specs.Decoded.{executionOf}
+use Rattle.search_walk.specs.Walks.{Closed}
+use Rattle.search_meaning.proofs.Meaning.{tested}
+use Rattle.search_claim.specs.NextPrefix.{NextPrefix}
+
+consistent-closed : (e : Execution) → Closed (consistent e)
+unfolding consistent
+consistent-closed e xs x h = keeps-shorter xs x (rules e) h
+
+pub next-prefix : NextPrefix
+next-prefix bytes x read t marks rows means xs consists r position places levels words replaced walked =
+    walked .means (consistent (executionOf x))
+    (tested {t = record { execution = x; operations = t; marks = marks; rows = rows }} means (read-accepted bytes (executionOf x) read))
+    (consistent-closed (executionOf x)) consists

@@ -1,0 +1,25 @@
+-- The walk in document 01's terms. Its contract (`Walked`) speaks of rows, and of any test of prefixes that they decide; for an accepted record and its rows, 'consistent' is such a test.
+use Prim.Native.Nat.{ℕ}
+use mathlib.Core.Path.{_≡_}
+use mathlib.Core.Bool.{true}
+use mathlib.Core.List.{List}
+use Rattle.model.specs.Execution.{operations}
+use Rattle.model.specs.Rules.{consistent}
+use Rattle.model.specs.Calls.{says, readAll}
+use Rattle.record_decoded.specs.declared.types.Execution.{Execution}
+use Rattle.record_decoded.specs.Decoded.{executionOf}
+use Rattle.relation_links.specs.declared.operations.Operations.{Operations}
+use Rattle.search_admit.specs.Rows.{RowsMean}
+use Rattle.search_walk.specs.declared.WalkAnswer.{WalkAnswer}
+use Rattle.search_walk.specs.Walks.{Means, Walked}
+
+-- For an accepted record, its rows and a consistent prefix xs, whatever keeps the walk's contract from xs gives the next consistent prefix of that execution in
+-- lexicographic order, or says that none comes after xs.
+abbrev pub NextPrefix : Type 0
+NextPrefix =
+    (bytes : List ℕ) (x : Execution) → readAll bytes ≡ says (executionOf x)
+    → (t : Operations) (marks : List (List ℕ)) (rows : List ℕ) → RowsMean x t marks rows
+    → (xs : List ℕ) → consistent (executionOf x) xs ≡ true
+    → (r : WalkAnswer) (position places levels words replaced : List ℕ)
+    → Walked (operations (executionOf x)) rows xs r position places levels words replaced
+    → Means (consistent (executionOf x)) (operations (executionOf x)) xs r position
