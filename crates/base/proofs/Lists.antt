@@ -399,6 +399,14 @@ pub map-map : {A B C : Type 0} (g : B → C) (f : A → B) (l : List A) → map 
 map-map g f [] = refl
 map-map g f (a ∷ l) = rw (map-map g f l)
 
+-- an entry of different numbers below n
+pub distinct-entry : (n : ℕ) (s : List ℕ) (x : ℕ) (w : List ℕ) → distinct n [] (s ++ x ∷ w) ≡ true → (x < n) × (not (member s x) ≡ true)
+distinct-entry n s x w h =
+    let d : distinct n [] (s ++ (x ∷ [])) ≡ true = distinct-first n [] (s ++ (x ∷ [])) w (ap (distinct n []) (append-snoc s x w) ∙ h) in
+    let (a, b) = and-parts (distinct n [] s) (ltb x n && not (member s x)) (sym (distinct-append n [] s x) ∙ d) in
+    let (e, f) = and-parts (ltb x n) (not (member s x)) b in
+    (ltb-true x n e, f)
+
 -- each of different numbers below n is below n
 pub distinct-in : (n : ℕ) (passed xs : List ℕ) {o : ℕ} → distinct n passed xs ≡ true → List·Memᴰ o xs → o < n
 unfolding distinct

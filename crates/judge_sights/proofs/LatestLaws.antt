@@ -13,7 +13,7 @@ use Rattle.base.proofs.Bools.{split, clash, and-parts, and-both, eqb-swap}
 use Rattle.base.proofs.Lists.{member-append}
 use Rattle.model.specs.Rules.{byteOf, latest}
 use Rattle.relation_places.specs.Places.{placeFrom, placed, Placed}
-use Rattle.relation_places.proofs.PlaceLaws.{place-from, place-top, placed-short}
+use Rattle.relation_places.proofs.PlaceLaws.{place-from, place-top, place-absent, placed-short}
 
 -- the entries are different
 allDifferent : List ℕ → Bool
@@ -46,16 +46,6 @@ unfolding allDifferent
 different-drop zero xs h = h
 different-drop (suc k) [] h = refl
 different-drop (suc k) (x ∷ xs) h = different-drop k xs (and-parts (not (member xs x)) (allDifferent xs) h .1)
-
--- an operation that does not stand has no place
-place-absent : (k : ℕ) (xs : List ℕ) (o : ℕ) → member xs o ≡ false → placeFrom k xs o ≡ 255
-unfolding placeFrom member
-place-absent k [] o h = refl
-place-absent k (x ∷ xs) o h = go (eqb x o) h (place-absent (suc k) xs o)
-  where
-    go : (b : Bool) → (b || member xs o) ≡ false → (member xs o ≡ false → placeFrom (suc k) xs o ≡ 255) → cond b k (placeFrom (suc k) xs o) ≡ 255
-    go true m ih = absurd (false≢true (sym m))
-    go false m ih = ih m
 
 either-way : (b : Bool) (k : ℕ) → cond b k k ≡ k
 either-way true k = refl

@@ -15,9 +15,10 @@ use Rattle.model.specs.Execution.{Execution, operations}
 use Rattle.model.specs.Questions.{found, readRecord}
 use Rattle.model.specs.Rules.{Claim, broken, lowestFrom, lowestBroken, rules, keeps, consistent}
 use Rattle.model.specs.Search.{prefixes}
+use Rattle.model.specs.Claims.{Ascending}
 use Rattle.model.specs.Calls.{Judgement, Answer, says, refuses, Legal, andThen, asks, answerOf, readAll, legal, judgementOf, judgeOrder, judgeCall}
 use Rattle.model.proofs.Consistent.{keeps-shorter, keeps-empty}
-use Rattle.model.proofs.Prefixes.{Ascending, prefixes-ascend, prefixes-are}
+use Rattle.model.proofs.Prefixes.{prefixes-ascend, prefixes-are}
 
 -- the judgement of a prefix by whether it breaks no rule, where no rule has number 0
 lowest-keeps : (k : ℕ) (rs : List (List Claim)) (xs : List ℕ) → (judgementOf (lowestFrom k rs xs) ≡ legal) ↔ (keeps rs xs ≡ true)

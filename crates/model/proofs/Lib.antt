@@ -8,3 +8,4 @@ pub mod Legal
 pub mod ProgramOrder
 pub mod Accepted
 pub mod Numbers
+pub mod Quoted

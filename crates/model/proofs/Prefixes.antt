@@ -15,12 +15,8 @@ use Rattle.base.proofs.Bools.{and-parts, and-both}
 use Rattle.base.proofs.Lists.{in-keep, of-keep, in-for, of-for, of-count, in-below, of-below, distinct-length}
 use Rattle.base.proofs.Lex.{nil-less, less-extension, less-fork}
 use Rattle.model.specs.Search.{absent, extensions, prefixes}
+use Rattle.model.specs.Claims.{Ascending}
 use Rattle.model.proofs.Before.{then}
-
--- each element is less than all that follow it
-abbrev pub Ascending : List (List ℕ) → Type 0
-Ascending [] = Unit {0}
-Ascending (x ∷ l) = ((z : List ℕ) → List·Memᴰ z l → Less x z) × Ascending l
 
 ascending-append : (l m : List (List ℕ)) → Ascending l → Ascending m
     → ((a b : List ℕ) → List·Memᴰ a l → List·Memᴰ b m → Less a b) → Ascending (l ++ m)

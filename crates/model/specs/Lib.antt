@@ -8,6 +8,7 @@ pub mod Chains
 pub mod Calls
 pub mod Accepted
 pub mod Courses
+pub mod Claims
 pub mod Verdict
 pub mod Notation
 pub mod Rows

@@ -12,8 +12,8 @@ use Rattle.model.specs.Questions.{found, readRecord}
 use Rattle.model.specs.Rules.{Link, linksOf, linked}
 use Rattle.model.specs.Chains.{chainMark, chainMarks}
 use Rattle.model.specs.Calls.{andThen, asks, answerOf, readAll, tableMarks, tabling, tableReply, tableCall}
-use Rattle.model.proofs.Accepted.{accepted}
-use Rattle.relation_chain_table.specs.Paths.{BytesArePaths}
+use Rattle.model.proofs.Accepted.{accepted, read-found}
+use Rattle.relation_chain_table.specs.Paths.{BytesArePaths, ChainsArePaths}
 use Rattle.relation_chain_table.proofs.LinkedLaws.{chain-marks-are-paths}
 use Rattle.relation_chain_table.proofs.RowLaws.{in-square, rows-length, rows-at}
 
@@ -50,3 +50,6 @@ module _ (bytes table : List ℕ) (e : Execution) (rest : List ℕ) (read : read
       ∙ mark-at (operations e) links a b h l in
       let both = chain-marks-are-paths e (accepted bytes e rest read) a b h l in
       (λ t. both .0 (sym there ∙ t), λ p. there ∙ both .1 p)
+
+pub chains-are-paths : ChainsArePaths
+chains-are-paths bytes table e h room = let (rest, f) = read-found bytes e h in bytes-are-paths bytes table e rest f room

@@ -102,8 +102,8 @@ module _ (x : Execution) (a : Accepted (executionOf x)) where
             (λ i j p q. filled i j p q ∙ leads-here c (a .consecutive) i j p q) (t .count) (omega arith) i j p q)
 
         -- a cell is 1 exactly where a path of links leads
-        pub chains-are-paths : CellsArePaths (operations e) (linksOf e (linked e)) chains
-        chains-are-paths = cells-are-paths (operations e) (linksOf e (linked e)) (links-within e (linked e) (a .consecutive)) chains holds
+        pub square-is-paths : CellsArePaths (operations e) (linksOf e (linked e)) chains
+        square-is-paths = cells-are-paths (operations e) (linksOf e (linked e)) (links-within e (linked e) (a .consecutive)) chains holds
 
         written : squareMarks chains (t .count) (t .count) ≡ chainMarks (operations e) (linksOf e (linked e))
         written =

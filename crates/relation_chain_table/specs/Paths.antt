@@ -1,11 +1,13 @@
 -- Paths of links by what they are, with no algorithm; what it is for the marks of a chain table and the cells of a square to be the paths.
-use Prim.Native.Nat.{ℕ, _+_, _*_, _<_}
+use Prim.Native.Nat.{ℕ, _+_, _*_, _<_, _≤_}
 use mathlib.Core.Path.{_≡_}
 use mathlib.Core.List.{List, List·Memᴰ}
 use mathlib.Core.Logic.{_↔_}
-use lib.ListN.{getD}
-use Rattle.model.specs.Rules.{Link}
+use lib.ListN.{length, getD}
+use Rattle.model.specs.Execution.{Execution, operations}
+use Rattle.model.specs.Rules.{Link, linksOf, linked}
 use Rattle.model.specs.Chains.{chainMark}
+use Rattle.model.specs.Calls.{says, readAll, tableCall}
 use Rattle.relation_chain_table.specs.Squares.{cell}
 
 -- a path from a to b: one link, or a link and then a path
@@ -28,3 +30,9 @@ CellsArePaths n links m = (a b : ℕ) → a < n → b < n → (cell m a b ≡ 1)
 -- the byte at a × n + b of a table is 1 exactly where a path leads from a to b
 abbrev pub BytesArePaths : ℕ → List Link → List ℕ → Type 0
 BytesArePaths n links table = (a b : ℕ) → a < n → b < n → (getD table (a * n + b) 0 ≡ 1) ↔ Path links a b
+
+-- Where the record is accepted and the table has room, the call leaves a mark of 1 exactly where a path of links leads.
+abbrev pub ChainsArePaths : Type 0
+ChainsArePaths =
+    (bytes table : List ℕ) (e : Execution) → readAll bytes ≡ says e → operations e * operations e ≤ length table
+    → BytesArePaths (operations e) (linksOf e (linked e)) (tableCall bytes table .table)

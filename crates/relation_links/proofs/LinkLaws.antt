@@ -13,7 +13,7 @@ use Rattle.base.specs.Lists.{below}
 use Rattle.base.specs.Below.{anyBelow}
 use Rattle.base.proofs.Lists.{of-for}
 use Rattle.base.proofs.Bits.{bit-packed}
-use Rattle.model.specs.Execution.{Kind, ld, ld-acq, st, st-rel, mf, isLoad, isStore, isAcquire, isFence, isRelease, Instruction, Execution, Role, LV, RV, roles, Operation, operationsOf, allOperations}
+use Rattle.model.specs.Execution.{Kind, ld, ld-acq, st, st-rel, mf, isLoad, isStore, isAcquire, isFence, isRelease, Instruction, Execution, Role, LV, RV, roles, numberOf, Operation, operationsOf, allOperations}
 use Rattle.model.specs.Rules.{hasRoleR, hasRoleLV, hasRoleF, hasRoleRV, sameVisibility, earlier, link1, link2, link3, link4, link5, link6, link7, paired, link8, link13, linked}
 use Rattle.model.specs.Accepted.{Consecutive}
 use Rattle.model.proofs.Numbers.{one-numbered}
@@ -29,6 +29,14 @@ operation-role e a m =
     let (i, mi, ma) = of-for (operationsOf (e .processors)) (e .instructions) m in
     let (r, mr, h) = Memᴰ·of-map _ (roles (e .processors) (i .kind)) ma in
     subst (λ (o : Operation). List·Memᴰ (o .role) (roles (e .processors) (o .instruction .kind))) h mr
+
+-- an operation has the number of its instruction's role
+pub operation-number : (e : Execution) (a : Operation) → List·Memᴰ a (allOperations e) → a .number ≡ numberOf (a .instruction) (a .role)
+unfolding allOperations operationsOf
+operation-number e a m =
+    let (i, mi, ma) = of-for (operationsOf (e .processors)) (e .instructions) m in
+    let (r, mr, h) = Memᴰ·of-map _ (roles (e .processors) (i .kind)) ma in
+    subst (λ (o : Operation). o .number ≡ numberOf (o .instruction) (o .role)) h refl
 
 -- an operation is of an instruction of the execution
 pub operation-of : (e : Execution) (a : Operation) → List·Memᴰ a (allOperations e) → List·Memᴰ (a .instruction) (e .instructions)

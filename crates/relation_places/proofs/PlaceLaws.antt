@@ -35,6 +35,16 @@ place-top k (x ∷ xs) o h = go (eqb x o) (place-top (suc k) xs o (omega arith))
     go true l = omega arith
     go false l = l
 
+-- an operation that does not stand has no place
+pub place-absent : (k : ℕ) (xs : List ℕ) (o : ℕ) → member xs o ≡ false → placeFrom k xs o ≡ 255
+unfolding placeFrom member
+place-absent k [] o h = refl
+place-absent k (x ∷ xs) o h = go (eqb x o) h (place-absent (suc k) xs o)
+  where
+    go : (b : Bool) → (b || member xs o) ≡ false → (member xs o ≡ false → placeFrom (suc k) xs o ≡ 255) → cond b k (placeFrom (suc k) xs o) ≡ 255
+    go true m ih = absurd (false≢true (sym m))
+    go false m ih = ih m
+
 before-from : (k : ℕ) (xs : List ℕ) (a b : ℕ) → k + length xs ≤ 255 → before xs a b ≡ ltb (placeFrom k xs a) (placeFrom k xs b)
 unfolding before placeFrom
 before-from k [] a b h = refl

@@ -13,7 +13,7 @@ use Rattle.base.proofs.Bools.{clash, is-false}
 use Rattle.base.proofs.Lists.{getD-member}
 use Rattle.base.proofs.Lex.{less-irreflexive, less-asymmetric}
 use Rattle.model.specs.Search.{upToFull}
-use Rattle.model.proofs.Prefixes.{Ascending}
+use Rattle.model.specs.Claims.{Ascending}
 
 module _ {A : Type 0} (p : A → Bool) where
   -- a test that all elements pass keeps them all

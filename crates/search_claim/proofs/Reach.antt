@@ -14,7 +14,7 @@ use Rattle.base.specs.Lex.{Less}
 use Rattle.base.proofs.Bools.{split, clash, agree}
 use Rattle.base.proofs.Lists.{getD-member}
 use Rattle.model.specs.Search.{allowed, forbidden, unfinished, Outcome, extensions, prefixes, upToFull, after, full, reached, searchFrom}
-use Rattle.model.proofs.Prefixes.{Ascending}
+use Rattle.model.specs.Claims.{Ascending}
 use Rattle.search_claim.proofs.Cut.{keep-behind, At, cut-at, Ends, cut-ends}
 
 module _ (n : ℕ) (c : List ℕ → Bool) where

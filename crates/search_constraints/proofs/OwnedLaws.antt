@@ -24,10 +24,9 @@ use Rattle.relation_links.specs.declared.operations.Operations.{Operations}
 use Rattle.relation_links.specs.Operations.{operationAt, tableOf}
 use Rattle.relation_links.specs.Compiled.{Compiled}
 use Rattle.relation_links.specs.Linked.{linkedBy, linkedAt}
-use Rattle.relation_links.proofs.LinkLaws.{operation-role}
+use Rattle.relation_links.proofs.LinkLaws.{operation-role, operation-number}
 use Rattle.relation_links.proofs.CompiledLaws.{operation-there, owner-there}
 use Rattle.search_constraints.specs.Rows.{linkedFrom, linkedOf}
-use Rattle.search_constraints.proofs.PartnerLaws.{operation-number}
 
 module _ {x : Execution} {t : Operations} {marks : List (List ℕ)} (h : Compiled x t marks) where
   abbrev its : ℕ → model.Instruction

@@ -24,18 +24,10 @@ use Rattle.relation_marks.specs.Marks.{hasMark, markAt, marksOf, marksBetween}
 use Rattle.relation_links.specs.declared.operations.Operations.{Operations}
 use Rattle.relation_links.specs.Operations.{operationAt, tableOf}
 use Rattle.relation_links.specs.Compiled.{Compiled}
-use Rattle.relation_links.proofs.LinkLaws.{operation-role, operation-of}
+use Rattle.relation_links.proofs.LinkLaws.{operation-role, operation-number, operation-of}
 use Rattle.relation_links.proofs.CompiledLaws.{operation-there, owner-there}
 use Rattle.search_admit.specs.Rows.{partner}
 use Rattle.search_constraints.specs.Rows.{remotesFrom, partnerOf}
-
--- an operation has the number of its instruction's role
-pub operation-number : (e : model.Execution) (a : Operation) → List·Memᴰ a (allOperations e) → a .number ≡ numberOf (a .instruction) (a .role)
-unfolding allOperations operationsOf
-operation-number e a m =
-    let (i, mi, ma) = of-for (operationsOf (e .processors)) (e .instructions) m in
-    let (r, mr, h) = Memᴰ·of-map _ (roles (e .processors) (i .kind)) ma in
-    subst (λ (o : Operation). o .number ≡ numberOf (o .instruction) (o .role)) h refl
 
 -- only an RV has a number past its instruction's first
 past-first : (i : Instruction) (k q : ℕ) → numberOf i (roleNumbered k) ≡ suc (i .first) + q → not (ltb k 3) ≡ true

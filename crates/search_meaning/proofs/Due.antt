@@ -9,7 +9,7 @@ use borrow.Author.Tests.{eq-eqb, ne-eqb, lt-ltb, ltb-true, not-true}
 use Rattle.base.specs.Lists.{any, member, distinct}
 use Rattle.base.specs.Below.{allBelow}
 use Rattle.base.proofs.Bools.{split, clash, is-false, and-parts, and-both, or-right}
-use Rattle.base.proofs.Lists.{any-witness, any-member, in-keep, in-for, in-below, member-in, in-member, member-append, distinct-append}
+use Rattle.base.proofs.Lists.{any-witness, any-member, in-keep, in-for, in-below, member-in, in-member, member-append, distinct-entry}
 use Rattle.base.proofs.Tests.{all-fails, all-below}
 use Rattle.model.specs.Execution as model
 use Rattle.model.specs.Execution.{Instruction, isRelease, RV, numberOf, stores, operations, everyProcessor}
@@ -41,10 +41,7 @@ last-stands ys o = member-append ys o o ∙ or-right (member ys o) (eqb o o) (eq
 
 -- the last of different numbers
 last-new : (n : ℕ) (ys : List ℕ) (o : ℕ) → distinct n [] (ys ++ (o ∷ [])) ≡ true → (o < n) × (member ys o ≡ false)
-last-new n ys o h =
-    let (h1, h2) = and-parts (distinct n [] ys) (ltb o n && not (member ys o)) (rw distinct-append at h) in
-    let (h3, h4) = and-parts (ltb o n) (not (member ys o)) h2 in
-    (ltb-true o n h3, not-true (member ys o) h4)
+last-new n ys o h = let (low, new) = distinct-entry n ys o [] h in (low, not-true (member ys o) new)
 
 -- an st.rel to WB
 abbrev opens : model.Execution → Instruction → Bool

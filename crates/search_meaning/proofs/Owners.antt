@@ -13,7 +13,7 @@ use Rattle.model.specs.Accepted.{Accepted}
 use Rattle.record_decoded.specs.Kinds.{roleNumbered}
 use Rattle.record_decoded.specs.Decoded.{instructionAt, instructionsOf, executionOf}
 use Rattle.relation_links.specs.Operations.{operationAt, tableOf}
-use Rattle.relation_links.proofs.LinkLaws.{operation-role, operation-of}
+use Rattle.relation_links.proofs.LinkLaws.{operation-role, operation-of, operation-number}
 use Rattle.relation_links.proofs.CompiledLaws.{operation-there}
 use Rattle.search_reduction.proofs.Ownership.{one-owner}
 use Rattle.search_meaning.proofs.Tables.{Tables, TablesMean}
@@ -85,11 +85,8 @@ module _ {t : Tables} (h : TablesMean t) (accepted : Accepted (executionOf (t .e
 
   -- its number
   pub number-is : numberOf its role ≡ x
-  unfolding operationAt allOperations operationsOf
-  number-is =
-      let (i, mi, ma) = of-for (operationsOf (e .processors)) (e .instructions) here in
-      let (r, mr, q) = Memᴰ·of-map _ (roles (e .processors) (i .kind)) ma in
-      subst (λ (o : model.Operation). numberOf (o .instruction) (o .role) ≡ o .number) q refl
+  unfolding operationAt
+  number-is = sym (operation-number e (operationAt (t .execution .instructions) (t .operations) x) here)
 
   -- an operation with its number is it
   pub owner-is : {j : Instruction} {s : Role} → List·Memᴰ j (e .instructions) → List·Memᴰ s (roles (e .processors) (j .kind)) → x ≡ numberOf j s → (j ≡ its) × (s ≡ role)

@@ -8,7 +8,7 @@ use Rattle.base.specs.Lists.{keep}
 use Rattle.base.specs.Lex.{lexLess, Less}
 use Rattle.base.proofs.Bools.{is-false}
 use Rattle.base.proofs.Lex.{less-irreflexive, less-transitive, less-asymmetric}
-use Rattle.model.proofs.Prefixes.{Ascending}
+use Rattle.model.specs.Claims.{Ascending}
 
 -- nothing is kept where nothing passes
 pub keep-none : {A : Type 0} (p : A → Bool) (l : List A) → ((a : A) → List·Memᴰ a l → p a ≡ true → ⊥) → keep p l ≡ []

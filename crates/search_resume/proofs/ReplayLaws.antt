@@ -10,7 +10,7 @@ use lib.Seq.{set-getD, take-suc, take-take}
 use borrow.Author.Tests.{not-true, not-false}
 use Rattle.base.specs.Lists.{member, distinct}
 use Rattle.base.proofs.Bools.{clash, is-false}
-use Rattle.base.proofs.Lists.{distinct-first}
+use Rattle.base.proofs.Lists.{distinct-first, distinct-entry}
 use Rattle.relation_places.proofs.PlaceLaws.{placing-none, placed-none}
 use Rattle.search_sets.specs.Set.{holds}
 use Rattle.search_sets.proofs.Members.{holds-none}
@@ -20,7 +20,7 @@ use Rattle.search_admit.specs.Fits.{dueOf, refused, enabled, Standing, Tested}
 use Rattle.search_admit.proofs.FitLaws.{due-first}
 use Rattle.search_enabled.specs.Affects.{Affecting}
 use Rattle.search_walk.specs.Walks.{stands, enables, opens, low, high, Levels, Level, Entered, Closed, Kept}
-use Rattle.search_walk.proofs.Gaps.{closed-front, entry}
+use Rattle.search_walk.proofs.Gaps.{closed-front}
 use Rattle.search_walk.proofs.Levels.{placed-more, remembered-more, levels-more}
 use Rattle.search_walk.proofs.Search.{open-tells}
 use Rattle.search_resume.specs.Replays.{Replayed}
@@ -122,7 +122,7 @@ module _ {n : ℕ} {rows : List ℕ} {size : ℕ} {given entries places levels w
         ∙ take-append-drop (suc j) (take size given)
 
     x-new : (x < n) × (not (member (take j given) x) ≡ true)
-    x-new = entry n (take j given) x [] (distinct-first n [] (take j given ++ (x ∷ [])) (drop (suc j) (take size given)) (ap (distinct n []) front ∙ inv .different))
+    x-new = distinct-entry n (take j given) x [] (distinct-first n [] (take j given ++ (x ∷ [])) (drop (suc j) (take size given)) (ap (distinct n []) front ∙ inv .different))
 
     pub entry-low : x < n
     entry-low = x-new .0

@@ -6,13 +6,11 @@ use mathlib.Core.Path.{_≡_, sym, ap, _∙_, subst}
 use mathlib.Core.Bool.{Bool, true, false, not, _&&_}
 use mathlib.Core.List.{List, [], _∷_, _++_, append-nil}
 use mathlib.Core.Logic.{_⊎_, inl, inr, ⊎-elim}
-use lib.Dec.{ltb}
 use lib.Seq.{append-snoc}
-use borrow.Author.Tests.{ltb-true}
 use Rattle.base.specs.Lists.{member, distinct}
 use Rattle.base.specs.Lex.{Less}
 use Rattle.base.proofs.Bools.{and-parts, and-both, clash}
-use Rattle.base.proofs.Lists.{distinct-append, distinct-first}
+use Rattle.base.proofs.Lists.{distinct-entry}
 use Rattle.base.proofs.Lex.{less-cases, less-head, less-nil, less-total}
 use Rattle.search_walk.specs.Walks.{Closed, Passes, IsNext, IsLast}
 
@@ -49,14 +47,6 @@ pub closed-front : (c : List ℕ → Bool) → Closed c → (ys xs : List ℕ) �
 closed-front c cl [] xs h = ap c (sym (append-nil xs)) ∙ h
 closed-front c cl (y ∷ ys) xs h = cl xs y (closed-front c cl ys (xs ++ (y ∷ [])) (ap c (append-snoc xs y ys) ∙ h))
 
--- an entry is below n and does not stand before
-pub entry : (n : ℕ) (s : List ℕ) (x : ℕ) (w : List ℕ) → distinct n [] (s ++ x ∷ w) ≡ true → (x < n) × (not (member s x) ≡ true)
-entry n s x w h =
-    let d : distinct n [] (s ++ (x ∷ [])) ≡ true = distinct-first n [] (s ++ (x ∷ [])) w (ap (distinct n []) (append-snoc s x w) ∙ h) in
-    let (a, b) = and-parts (distinct n [] s) (ltb x n && not (member s x)) (sym (distinct-append n [] s x) ∙ d) in
-    let (e, f) = and-parts (ltb x n) (not (member s x)) b in
-    (ltb-true x n e, f)
-
 pub gap-starts : (c : List ℕ → Bool) (n : ℕ) (xs : List ℕ) → Gap c n xs (xs ++ 0 ∷ [])
 gap-starts c n xs zs p h k = less-first xs zs h k
 
@@ -67,7 +57,7 @@ gap-more c n cl xs s x f gap zs p h k = go (less-total zs (s ++ x ∷ []))
   where
     front : (w : List ℕ) → zs ≡ s ++ x ∷ w → ⊥
     front w e =
-        clash (and-both (entry n s x w (ap (distinct n []) (sym e) ∙ p .1) .1)
+        clash (and-both (distinct-entry n s x w (ap (distinct n []) (sym e) ∙ p .1) .1)
         (closed-front c cl w (s ++ (x ∷ [])) (ap c (append-snoc s x w ∙ sym e) ∙ p .0))) f
 
     go : Less zs (s ++ x ∷ []) ⊎ ((zs ≡ s ++ x ∷ []) ⊎ Less (s ++ x ∷ []) zs) → ⊥
@@ -81,19 +71,19 @@ gap-up c n xs s x gap zs p h k = go (less-total zs (s ++ x ∷ n ∷ []))
   where
     go : Less zs (s ++ x ∷ n ∷ []) ⊎ ((zs ≡ s ++ x ∷ n ∷ []) ⊎ Less (s ++ x ∷ n ∷ []) zs) → ⊥
     go (inl l) = gap zs p h (subst (Less zs) (sym (append-snoc s x (n ∷ []))) l)
-    go (inr (inl e)) = omega (arith, entry n (s ++ (x ∷ [])) n [] (ap (distinct n []) (append-snoc s x (n ∷ []) ∙ sym e) ∙ p .1))
+    go (inr (inl e)) = omega (arith, distinct-entry n (s ++ (x ∷ [])) n [] (ap (distinct n []) (append-snoc s x (n ∷ []) ∙ sym e) ∙ p .1))
     go (inr (inr l)) = let (w, e, m) = less-between s x (n ∷ []) zs l k in past w e m
       where
         past : (w : List ℕ) → zs ≡ s ++ x ∷ w → Less (n ∷ []) w → ⊥
         past [] e m = less-nil (n ∷ []) m
         past (y ∷ w) e m =
-            let b = entry n (s ++ (x ∷ [])) y w (ap (distinct n []) (append-snoc s x (y ∷ w) ∙ sym e) ∙ p .1) in
+            let b = distinct-entry n (s ++ (x ∷ [])) y w (ap (distinct n []) (append-snoc s x (y ∷ w) ∙ sym e) ∙ p .1) in
             less-cases n y [] w m (λ l. omega arith) (λ d l. omega arith)
 
 -- no first entry is left
 pub gap-last : (c : List ℕ → Bool) (n : ℕ) (xs : List ℕ) → Gap c n xs (n ∷ []) → IsLast c n xs
 gap-last c n xs gap [] p h = less-nil xs h
-gap-last c n xs gap (z ∷ zs) p h = gap (z ∷ zs) p h (less-head z n zs [] (entry n [] z zs (p .1) .0))
+gap-last c n xs gap (z ∷ zs) p h = gap (z ∷ zs) p h (less-head z n zs [] (distinct-entry n [] z zs (p .1) .0))
 
 -- the point of the search passes
 pub gap-next : (c : List ℕ → Bool) (n : ℕ) (xs ys : List ℕ) → Passes c n ys → Less xs ys → Gap c n xs ys → IsNext c n xs ys

@@ -12,9 +12,9 @@ use lib.Dec.{eqb, ltb}
 use borrow.Author.Tests.{ne-eqb, not-true}
 use Rattle.base.specs.Lists.{member}
 use Rattle.base.proofs.Bools.{eqb-swap}
-use Rattle.base.proofs.Lists.{member-append, distinct-first}
+use Rattle.base.proofs.Lists.{member-append, distinct-first, distinct-entry}
 use Rattle.relation_places.specs.Places.{placeFrom, placed, Placed}
-use Rattle.relation_places.proofs.PlaceLaws.{placed-there, placed-append}
+use Rattle.relation_places.proofs.PlaceLaws.{place-absent, placed-there, placed-append}
 use Rattle.search_sets.specs.Set.{holds}
 use Rattle.search_admit.specs.Rows.{writtenWord, wordsWith, wordsFrom, wordsAfter, firstWords}
 use Rattle.search_sets.proofs.Tables.{putAt, put-low, put-high, put-here, put-word, put-other, put-length}
@@ -23,17 +23,6 @@ use Rattle.search_admit.proofs.FitLaws.{due-more}
 use Rattle.search_enabled.specs.Affects.{Affecting, enabledAfter}
 use Rattle.search_enabled.proofs.Unaffected.{enabled-more}
 use Rattle.search_walk.specs.Walks.{stands, enables, opens, low, high, Levels, Level, Remembered}
-use Rattle.search_walk.proofs.Gaps.{entry}
-
--- an operation that does not stand has no place
-no-place : (k : ℕ) (xs : List ℕ) (o : ℕ) → member xs o ≡ false → placeFrom k xs o ≡ 255
-unfolding placeFrom member
-no-place k [] o h = refl
-no-place k (x ∷ xs) o h = go (eqb x o) h (no-place (suc k) xs o)
-  where
-    go : (b : Bool) → (b || member xs o) ≡ false → (member xs o ≡ false → placeFrom (suc k) xs o ≡ 255) → cond b k (placeFrom (suc k) xs o) ≡ 255
-    go true m f = absurd (false≢true (sym m))
-    go false m f = f m
 
 -- the places of the others are as they were
 place-other : (k : ℕ) (xs : List ℕ) (x o : ℕ) → (x ≡ o → ⊥) → placeFrom k (xs ++ (x ∷ [])) o ≡ placeFrom k xs o
@@ -51,12 +40,12 @@ placed-less n xs x places long h = record {
 }
   where
     last : (x < n) × (member xs x ≡ false)
-    last = let (a, b) = entry n xs x [] (h .different) in (a, not-true (member xs x) b)
+    last = let (a, b) = distinct-entry n xs x [] (h .different) in (a, not-true (member xs x) b)
 
     stands : (o : ℕ) → Dec (o ≡ x) → placed (set places x 255) o ≡ placeFrom 0 xs o
     stands o (yes q) =
         rw q (placed-there (set places x 255) x (omega (arith, last .0, h .few)) ∙ getD-set-same places x 255 0 (omega (arith, last .0, h .few))
-        ∙ sym (no-place 0 xs x (last .1)))
+        ∙ sym (place-absent 0 xs x (last .1)))
     stands o (no q) =
         ap (λ (p : ℕ). cond (ltb o 128) p 255) (getD-set-other places x o 255 0 q) ∙ h .stands o ∙ place-other 0 xs x o (λ e. q (sym e))
 

@@ -10,6 +10,7 @@ use mathlib.Core.Logic.{⊎-elim}
 use lib.ListN.{length, getD, set, take, drop, length-set, take-append-drop}
 use lib.Seq.{take-suc, take-take, append-snoc}
 use borrow.Author.Tests.{not-true}
+use Rattle.base.proofs.Lists.{distinct-entry}
 use Rattle.base.specs.Lists.{member, distinct}
 use Rattle.base.specs.Lex.{Less}
 use Rattle.base.proofs.Bools.{and-parts}
@@ -22,7 +23,7 @@ use Rattle.search_admit.specs.Fits.{dueOf, ready, refused, readsRecorded, enabl
 use Rattle.search_enabled.specs.Affects.{Affecting}
 use Rattle.search_walk.specs.declared.WalkAnswer.the-variants.{Next, End}
 use Rattle.search_walk.specs.Walks.{stands, enables, opens, low, high, Levels, Level, Remembered, Closed, IsNext, Kept, Walked}
-use Rattle.search_walk.proofs.Gaps.{Gap, closed-front, entry, gap-starts, gap-more, gap-skip, gap-up, gap-last, gap-next}
+use Rattle.search_walk.proofs.Gaps.{Gap, closed-front, gap-starts, gap-more, gap-skip, gap-up, gap-last, gap-next}
 use Rattle.search_walk.proofs.Levels.{placed-less, one-more, placed-more, remembered-less, remembered-more, levels-less, levels-more}
 
 -- What the walk goes from: the prefix xs of `size` entries, and the sets of its levels.
@@ -169,7 +170,7 @@ module _ {n : ℕ} {rows xs : List ℕ} {size : ℕ} {position places levels wor
         ∙ ap (λ (o : ℕ). take j position ++ (o ∷ [])) (sym is)
 
     pub last-below : last < n
-    last-below = entry n (take j position) last [] (subst (λ (ys : List ℕ). distinct n [] ys ≡ true) shorter (at .places-hold .different)) .0
+    last-below = distinct-entry n (take j position) last [] (subst (λ (ys : List ℕ). distinct n [] ys ≡ true) shorter (at .places-hold .different)) .0
 
     -- no candidate is left at this level: the last entry is taken away
     pub search-up : (s : Set) → n ≤ c → (s .lo ≡ getD levels (2 * (3 * j + 2)) 0) × (s .hi ≡ getD levels (2 * (3 * j + 2) + 1) 0)
