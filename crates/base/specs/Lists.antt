@@ -49,10 +49,3 @@ member (x ∷ xs) a = eqb x a || member xs a
 unfoldable pub distinct : ℕ → List ℕ → List ℕ → Bool
 distinct n passed [] = true
 distinct n passed (x ∷ xs) = ltb x n && not (member passed x) && distinct n (passed ++ (x ∷ [])) xs
-
--- two lists are the same
-unfoldable pub same : List ℕ → List ℕ → Bool
-same [] [] = true
-same [] (y ∷ ys) = false
-same (x ∷ xs) [] = false
-same (x ∷ xs) (y ∷ ys) = eqb x y && same xs ys
