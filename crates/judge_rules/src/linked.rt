@@ -4,6 +4,7 @@ ghost use Prim.Native.Nat.{ℕ, _<_, _≤_};
 ghost use lib.ListN.{getD};
 ghost use Rattle.base.specs.Below.{anyBelow};
 ghost use Rattle.judge_rules.specs.Tests.{standsAgainst, linksBroken};
+use record_decoded::position::Position;
 use record_decoded::types::wide;
 use relation_links::link::link;
 use relation_places::before;
@@ -14,11 +15,11 @@ fn stands_against(
     i: usize,
     a: usize,
     b: usize,
-    owners: &[u8; 128],
-    roles: &[u8; 128],
+    owners: &[u8; Position::LIMIT],
+    roles: &[u8; Position::LIMIT],
     processors: &[u8; 40],
     marks: &[[u16; 40]; 40],
-    places: &[u8; 128],
+    places: &[u8; Position::LIMIT],
 ) -> bool
     requires { ⌜ (i < 40) × (a < 128) × (b < 128) × (getD (now owners) b 0 < 40) ⌝ }
     ensures { λ r. ⌜ r ≡ standsAgainst (now (places .entry)) rule (now (owners .entry)) (now (roles .entry)) (now (processors .entry)) (now (marks .entry)) i a b ⌝ }
@@ -36,11 +37,11 @@ fn links_broken_from(
     rule: u8,
     n: usize,
     a: usize,
-    owners: &[u8; 128],
-    roles: &[u8; 128],
+    owners: &[u8; Position::LIMIT],
+    roles: &[u8; Position::LIMIT],
     processors: &[u8; 40],
     marks: &[[u16; 40]; 40],
-    places: &[u8; 128],
+    places: &[u8; Position::LIMIT],
 ) -> bool
     requires { ⌜ (n ≤ 128) × (a < n) × ((o : ℕ) → o < n → getD (now owners) o 0 < 40) ⌝ }
     ensures { λ r. ⌜ r ≡ anyBelow n (standsAgainst (now (places .entry)) rule (now (owners .entry)) (now (roles .entry)) (now (processors .entry)) (now (marks .entry)) (getD (now (owners .entry)) a 0) a) ⌝ }
@@ -58,11 +59,11 @@ fn links_broken_from(
 pub fn links_broken(
     rule: u8,
     n: usize,
-    owners: &[u8; 128],
-    roles: &[u8; 128],
+    owners: &[u8; Position::LIMIT],
+    roles: &[u8; Position::LIMIT],
     processors: &[u8; 40],
     marks: &[[u16; 40]; 40],
-    places: &[u8; 128],
+    places: &[u8; Position::LIMIT],
 ) -> bool
     requires { ⌜ (n ≤ 128) × ((o : ℕ) → o < n → getD (now owners) o 0 < 40) ⌝ }
     ensures { λ r. ⌜ r ≡ linksBroken (now (places .entry)) rule n (now (owners .entry)) (now (roles .entry)) (now (processors .entry)) (now (marks .entry)) ⌝ }

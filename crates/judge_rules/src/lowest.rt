@@ -12,6 +12,7 @@ ghost use Rattle.judge_rules.specs.Lowest.{lowestMeant};
 use crate::linked::links_broken;
 use crate::pairwise::pairs_broken;
 use judge_sights::sights_broken;
+use record_decoded::position::Position;
 use record_decoded::types::Execution;
 use relation_links::operations::Operations;
 
@@ -27,7 +28,7 @@ fn rule_broken(
     x: Execution,
     t: Operations,
     marks: &[[u16; 40]; 40],
-    places: &[u8; 128],
+    places: &[u8; Position::LIMIT],
 ) -> bool
     requires { ⌜ (1 ≤ rule) × (rule ≤ 14) × (x .instructions .count ≤ 40) × (x .lines .count ≤ 8) × (x .processors ≤ 8) × (t .count ≤ 128) ⌝ }
     requires { ⌜ Compiled x t (now marks) ⌝ }
@@ -55,7 +56,7 @@ pub fn lowest_broken(
     x: Execution,
     t: Operations,
     marks: &[[u16; 40]; 40],
-    places: &[u8; 128],
+    places: &[u8; Position::LIMIT],
 ) -> Lowest
     requires { ⌜ (x .instructions .count ≤ 40) × (x .lines .count ≤ 8) × (x .processors ≤ 8) × (t .count ≤ 128) ⌝ }
     requires { ⌜ Compiled x t (now marks) ⌝ }

@@ -5,6 +5,7 @@ ghost use lib.ListN.{getD};
 ghost use Rattle.base.specs.Below.{anyBelow};
 ghost use Rattle.relation_marks.specs.Marks.{markAt};
 ghost use Rattle.judge_rules.specs.Tests.{someBefore, ownTurned, remoteTurned, releaseSplitBy, releaseSplit, bypassed, pairBroken, pairsBroken};
+use record_decoded::position::Position;
 use record_decoded::types::Instructions;
 use record_decoded::types::wide;
 use record_decoded::types::wide16;
@@ -16,7 +17,14 @@ use relation_marks::table::has_mark;
 use relation_places::before;
 
 // Whether, for some k below n, a + k × s is before b + k × t.
-fn some_before(places: &[u8; 128], n: usize, a: usize, s: usize, b: usize, t: usize) -> bool
+fn some_before(
+    places: &[u8; Position::LIMIT],
+    n: usize,
+    a: usize,
+    s: usize,
+    b: usize,
+    t: usize,
+) -> bool
     requires { ⌜ (n ≤ 255) × (a < 100000) × (b < 100000) × (s ≤ 1) × (t ≤ 1) ⌝ }
     ensures { λ r. ⌜ r ≡ someBefore (now (places .entry)) n a s b t ⌝ }
 {
@@ -31,7 +39,7 @@ fn some_before(places: &[u8; 128], n: usize, a: usize, s: usize, b: usize, t: us
 }
 
 // Rule 9: LV before LV, and not the own RVs.
-fn own_turned(places: &[u8; 128], v: usize, w: usize, p: usize, q: usize) -> bool
+fn own_turned(places: &[u8; Position::LIMIT], v: usize, w: usize, p: usize, q: usize) -> bool
     requires { ⌜ (v < 65536) × (w < 65536) × (p < 256) × (q < 256) ⌝ }
     ensures { λ r. ⌜ r ≡ ownTurned (now (places .entry)) v w p q ⌝ }
 {
@@ -42,7 +50,7 @@ fn own_turned(places: &[u8; 128], v: usize, w: usize, p: usize, q: usize) -> boo
 }
 
 // Rule 10: some RV before the other's, and some after.
-fn remote_turned(places: &[u8; 128], processors: usize, v: usize, w: usize) -> bool
+fn remote_turned(places: &[u8; Position::LIMIT], processors: usize, v: usize, w: usize) -> bool
     requires { ⌜ (v < 65536) × (w < 65536) × (processors ≤ 255) ⌝ }
     ensures { λ r. ⌜ r ≡ remoteTurned (now (places .entry)) processors v w ⌝ }
 {
@@ -56,7 +64,7 @@ fn remote_turned(places: &[u8; 128], processors: usize, v: usize, w: usize) -> b
 }
 
 // Whether operation o is no RV of v and stands after one of them and before another.
-fn splits_release(places: &[u8; 128], processors: usize, v: usize, o: usize) -> bool
+fn splits_release(places: &[u8; Position::LIMIT], processors: usize, v: usize, o: usize) -> bool
     requires { ⌜ (v < 65536) × (o < 65536) × (processors ≤ 255) ⌝ }
     ensures { λ r. ⌜ r ≡ releaseSplitBy (now (places .entry)) processors v o ⌝ }
 {
@@ -73,7 +81,12 @@ fn splits_release(places: &[u8; 128], processors: usize, v: usize, o: usize) -> 
 }
 
 // Rule 12: whether some operation splits the RVs of v.
-fn release_split(places: &[u8; 128], operations: usize, processors: usize, v: usize) -> bool
+fn release_split(
+    places: &[u8; Position::LIMIT],
+    operations: usize,
+    processors: usize,
+    v: usize,
+) -> bool
     requires { ⌜ (v < 65536) × (operations ≤ 65536) × (processors ≤ 255) ⌝ }
     ensures { λ r. ⌜ r ≡ releaseSplit (now (places .entry)) operations processors v ⌝ }
 {
@@ -86,7 +99,7 @@ fn release_split(places: &[u8; 128], operations: usize, processors: usize, v: us
 }
 
 // Rule 14: LV, then R, then the own RV.
-fn bypassed(places: &[u8; 128], v: usize, w: usize, p: usize) -> bool
+fn bypassed(places: &[u8; Position::LIMIT], v: usize, w: usize, p: usize) -> bool
     requires { ⌜ (v < 65536) × (p < 256) ⌝ }
     ensures { λ r. ⌜ r ≡ bypassed (now (places .entry)) v w p ⌝ }
 {
@@ -104,7 +117,7 @@ fn pair_broken(
     w: usize,
     p: usize,
     q: usize,
-    places: &[u8; 128],
+    places: &[u8; Position::LIMIT],
 ) -> bool
     requires { ⌜ (v < 65536) × (w < 65536) × (p < 256) × (q < 256) × (operations ≤ 65536) × (processors ≤ 255) ⌝ }
     ensures { λ r. ⌜ r ≡ pairBroken (now (places .entry)) rule marks operations processors v w p q ⌝ }
@@ -150,7 +163,7 @@ fn pairs_broken_with(
     operations: usize,
     processors: usize,
     i: usize,
-    places: &[u8; 128],
+    places: &[u8; Position::LIMIT],
 ) -> bool
     requires { ⌜ (is .count ≤ 40) × (i < 40) × (operations ≤ 65536) × (processors ≤ 255) ⌝ }
     ensures { λ r. ⌜ r ≡ anyBelow (is .count) (λ j. pairBroken (now (places .entry)) rule (markAt (now (marks .entry)) i j) operations processors (getD (is .firsts) i 0) (getD (is .firsts) j 0) (getD (is .processors) i 0) (getD (is .processors) j 0)) ⌝ }
@@ -187,7 +200,7 @@ pub fn pairs_broken(
     marks: &[[u16; 40]; 40],
     operations: usize,
     processors: usize,
-    places: &[u8; 128],
+    places: &[u8; Position::LIMIT],
 ) -> bool
     requires { ⌜ (is .count ≤ 40) × (operations ≤ 65536) × (processors ≤ 255) ⌝ }
     ensures { λ r. ⌜ r ≡ pairsBroken (now (places .entry)) rule is (now (marks .entry)) operations processors ⌝ }

@@ -11,6 +11,7 @@ ghost use Rattle.judge_sights.specs.Sights.{initialOf, dataByte, writesT
 use record_decoded::kind::is_load;
 use record_decoded::kind::is_store;
 use record_decoded::kind::kind_of;
+use record_decoded::position::Position;
 use record_decoded::types::Execution;
 use record_decoded::types::Instructions;
 use record_decoded::types::Lines;
@@ -121,7 +122,13 @@ fn own_of(is: Instructions, w: usize, load: usize) -> bool
 }
 
 // Whether store w makes the load local for the byte.
-fn makes_local(is: Instructions, places: &[u8; 128], w: usize, load: usize, address: usize) -> bool
+fn makes_local(
+    is: Instructions,
+    places: &[u8; Position::LIMIT],
+    w: usize,
+    load: usize,
+    address: usize,
+) -> bool
     requires { ⌜ (w < 40) × (load < 40) ⌝ }
     ensures { λ r. ⌜ r ≡ makesLocal is (now (places .entry)) load address w ⌝ }
 {
@@ -139,7 +146,7 @@ fn makes_local(is: Instructions, places: &[u8; 128], w: usize, load: usize, addr
 }
 
 // Whether the load is local for the byte.
-fn is_local(is: Instructions, places: &[u8; 128], load: usize, address: usize) -> bool
+fn is_local(is: Instructions, places: &[u8; Position::LIMIT], load: usize, address: usize) -> bool
     requires { ⌜ (is .count ≤ 40) × (load < 40) ⌝ }
     ensures { λ r. ⌜ r ≡ localBy is (now (places .entry)) load address ⌝ }
 {
@@ -179,7 +186,7 @@ fn visible_by(is: Instructions, w: usize, load: usize, local: bool) -> usize
 // The latest before R, store w taken in.
 fn latest_with(
     is: Instructions,
-    places: &[u8; 128],
+    places: &[u8; Position::LIMIT],
     w: usize,
     load: usize,
     address: usize,
@@ -209,7 +216,7 @@ fn latest_with(
 // The byte of the latest store before R; with none, the initial byte.
 fn latest_byte(
     is: Instructions,
-    places: &[u8; 128],
+    places: &[u8; Position::LIMIT],
     load: usize,
     address: usize,
     local: bool,
@@ -229,7 +236,7 @@ fn latest_byte(
 }
 
 // The byte that the rule has the load see at an address.
-fn byte_read(x: Execution, places: &[u8; 128], load: usize, address: usize) -> u8
+fn byte_read(x: Execution, places: &[u8; Position::LIMIT], load: usize, address: usize) -> u8
     requires { ⌜ (x .instructions .count ≤ 40) × (x .lines .count ≤ 8) × (load < 40) ⌝ }
     ensures { λ r. ⌜ r ≡ readBy x (now (places .entry)) load address ⌝ }
 {
@@ -240,7 +247,7 @@ fn byte_read(x: Execution, places: &[u8; 128], load: usize, address: usize) -> u
 }
 
 // Whether the load stands and its byte k is not the one that the rule gives.
-fn sight_broken(x: Execution, places: &[u8; 128], load: usize, k: usize) -> bool
+fn sight_broken(x: Execution, places: &[u8; Position::LIMIT], load: usize, k: usize) -> bool
     requires { ⌜ (x .instructions .count ≤ 40) × (x .lines .count ≤ 8) × (load < 40) × (k < 256) ⌝ }
     ensures { λ r. ⌜ r ≡ sightBroken x (now (places .entry)) load k ⌝ }
 {
@@ -255,7 +262,7 @@ fn sight_broken(x: Execution, places: &[u8; 128], load: usize, k: usize) -> bool
 }
 
 // Whether instruction i is a load that breaks the rule.
-pub fn load_broken(x: Execution, places: &[u8; 128], i: usize) -> bool
+pub fn load_broken(x: Execution, places: &[u8; Position::LIMIT], i: usize) -> bool
     requires { ⌜ (x .instructions .count ≤ 40) × (x .lines .count ≤ 8) × (i < 40) ⌝ }
     ensures { λ r. ⌜ r ≡ loadBroken x (now (places .entry)) i ⌝ }
 {
@@ -275,7 +282,7 @@ pub fn load_broken(x: Execution, places: &[u8; 128], i: usize) -> bool
 }
 
 // Whether rule 11 is broken by an order of which these are the places.
-pub fn sights_broken(x: Execution, places: &[u8; 128]) -> bool
+pub fn sights_broken(x: Execution, places: &[u8; Position::LIMIT]) -> bool
     requires { ⌜ (x .instructions .count ≤ 40) × (x .lines .count ≤ 8) ⌝ }
     ensures { λ r. ⌜ ((n : ℕ) (xs : List ℕ) → Placed n xs (now (places .entry)) → r ≡ any (broken xs) (rule11 (executionOf x))) ⌝ }
 {

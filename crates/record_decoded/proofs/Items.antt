@@ -44,10 +44,14 @@ item-first size at part h = item-byte size 0 at part h ∙ ap (λ (k : ℕ). get
 
 module _ {A : Type 0} {walk : Found A} {part : List ℕ} {at size : ℕ} {value : A} where
   pub fails : {q : ℕ} → walk ≡ no-to q → Answered walk part at size (Fail q) value
-  fails {q} h = record { is = h; ends = λ e. let z : _≡_ {A = ℕ} 0 1 = cc in absurd (omega arith) }
+  fails {q} h = record {
+    is = h;
+    long = λ n e. let z : _≡_ {A = ℕ} 0 1 = cc in absurd (omega arith);
+    ends = λ n e. let z : _≡_ {A = ℕ} 0 1 = cc in absurd (omega arith);
+  }
 
-  pub passes : walk ≡ found value (drop (at + size) part) → at + size ≤ length part → Answered walk part at size Pass value
-  passes h room = record { is = h; ends = λ e. room }
+  pub passes : walk ≡ found value (drop (at + size) part) → at + size ≤ length part → Answered walk part at size (Pass size) value
+  passes h room = record { is = h; long = λ n e. cc; ends = λ n e. let z : size ≡ n = cc in omega arith }
 
 -- A loop over n items: `whole` is what is left to read, after those of `done`, from index `at` on.
 pub record Going {A : Type 0} (read : List A → Reader A) (whole : Found (List A)) (part : List ℕ) (n i at : ℕ) (done : List A) : Type 0 where
@@ -72,21 +76,21 @@ module _ {A : Type 0} {read : List A → Reader A} {whole : Found (List A)} {par
 
   module _ {size : ℕ} {value : A} {r : Asked} (h : i < n) (a : Answered (read done (drop at part)) part at size r value) where
     -- the item's answer decides the turn
-    turn : whole ≡ next (foundIf r value (drop (at + size) part)) (λ b. many read (n - (i + 1)) (done ++ (b ∷ [])))
+    turn : whole ≡ next (foundIf r value part at) (λ b. many read (n - (i + 1)) (done ++ (b ∷ [])))
     turn = one h ∙ ap (λ (f : Found A). next f (λ b. many read (n - (i + 1)) (done ++ (b ∷ [])))) (a .is)
 
-    pub going-on : r ≡ Pass → Going read whole part n (i + 1) (at + size) (done ++ (value ∷ []))
+    pub going-on : {k : ℕ} → r ≡ Pass k → Going read whole part n (i + 1) (at + k) (done ++ (value ∷ []))
     unfolding next
-    going-on e = record {
+    going-on {k} e = record {
       turns = omega arith;
-      room = a .ends e;
-      decides = turn ∙ ap (λ (r : Asked). next (foundIf r value (drop (at + size) part)) (λ b. many read (n - (i + 1)) (done ++ (b ∷ [])))) e;
+      room = a .ends k e;
+      decides = turn ∙ ap (λ (r : Asked). next (foundIf r value part at) (λ b. many read (n - (i + 1)) (done ++ (b ∷ [])))) e;
     }
 
     pub going-fails : {q : ℕ} {other : List A} → r ≡ Fail q → ComesTo whole part (Refused q) other
     unfolding next
     going-fails {q} {other} e = record {
-      is = turn ∙ ap (λ (r : Asked). next (foundIf r value (drop (at + size) part)) (λ b. many read (n - (i + 1)) (done ++ (b ∷ [])))) e;
+      is = turn ∙ ap (λ (r : Asked). next (foundIf r value part at) (λ b. many read (n - (i + 1)) (done ++ (b ∷ [])))) e;
       within = λ k f. let z : _≡_ {A = ℕ} 0 1 = cc in absurd (omega arith);
     }
 

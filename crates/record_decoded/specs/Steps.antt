@@ -24,15 +24,16 @@ pub record ComesTo {A : Type 0} (walk : Found A) (part : List ℕ) (step : Step)
   pub within : (k : ℕ) → step ≡ Next k → k ≤ length part
 
 module _ {A : Type 0} where
-  -- what the questions of an item come to, its value and the bytes after it
-  abbrev pub foundIf : Asked → A → List ℕ → Found A
-  foundIf Pass a rest = found a rest
-  foundIf (Fail q) a rest = no-to q
+  -- what the questions of the item at `at` come to, and its value, as the model's walk has them
+  abbrev pub foundIf : Asked → A → List ℕ → ℕ → Found A
+  foundIf (Pass n) a part at = found a (drop (at + n) part)
+  foundIf (Fail q) a part at = no-to q
 
--- The walk over one item, of `size` bytes from `at` on, comes to what its questions come to, and an item that passes ends within the part.
+-- The walk over one item from `at` on comes to what its questions come to; an item that passes has `size` bytes, and ends within the part.
 pub record Answered {A : Type 0} (walk : Found A) (part : List ℕ) (at size : ℕ) (asked : Asked) (value : A) : Type 0 where
-  pub is : walk ≡ foundIf asked value (drop (at + size) part)
-  pub ends : asked ≡ Pass → at + size ≤ length part
+  pub is : walk ≡ foundIf asked value part at
+  pub long : (n : ℕ) → asked ≡ Pass n → n ≡ size
+  pub ends : (n : ℕ) → asked ≡ Pass n → at + n ≤ length part
 
 -- A walk over instructions, whose arrays stay counted
 pub record InstructionsComeTo (processors : ℕ) (walk : Found (List Instruction)) (part : List ℕ) (step : Step) (value : Instructions) : Type 0 where

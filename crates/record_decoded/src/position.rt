@@ -3,22 +3,22 @@ ghost use mathlib.Core.Path.{_≡_};
 ghost use mathlib.Core.List.{[]};
 ghost use Prim.Native.Nat.{_≤_};
 ghost use lib.ListN as ListN;
-ghost use lib.ListN.{take};
+ghost use lib.ListN.{take, replicate};
 ghost use lib.Seq.{paste};
 ghost use Rattle.record_decoded.specs.Positions.{positionOf};
 
 pub struct Position {
     pub length: usize,
-    pub entries: [u8; 128],
+    pub entries: [u8; Position::LIMIT],
 }
 
 impl Position {
     // The most operations of a record, so the most entries.
     pub const LIMIT: usize = 128;
 
-    // The position that a search begins at.
+    // The position that a search begins at; its array is zero.
     pub fn empty() -> Position
-        ensures { λ r. ⌜ (positionOf r ≡ []) × (r .length ≡ 0) × (ListN.length (r .entries) ≡ 128) ⌝ }
+        ensures { λ r. ⌜ (positionOf r ≡ []) × (r .length ≡ 0) × (ListN.length (r .entries) ≡ 128) × (r .entries ≡ replicate 128 0) ⌝ }
     {
         Position {
             length: 0,

@@ -11,16 +11,17 @@ pub const ENTRY_LENGTH: usize = 11;
 
 pub const PAIR_LENGTH: usize = 2;
 
-// The most processors, lines, instructions, operations and pairs of a record.
+// The most processors, lines, instructions and pairs of a record. (The most operations: `Position::LIMIT`.)
 pub const MOST_PROCESSORS: u8 = 8;
 
 pub const MOST_LINES: u8 = 8;
 
 pub const MOST_INSTRUCTIONS: usize = 40;
 
-pub const MOST_OPERATIONS: usize = 128;
-
 pub const MOST_PAIRS: u8 = 40;
+
+// The data bytes of an instruction in the arrays.
+pub const DATA_STRIDE: usize = 8;
 
 // The number of an instruction, from 0 through the record.
 pub struct InstructionNo(pub usize);
@@ -35,7 +36,8 @@ pub struct Lines {
     pub initial: [u8; 64],
 }
 
-// The instructions by number, and the number of their operations. Instruction i's data are the eight of `bytes` from 8i on.
+// The instructions by number, and the number of their operations. Instruction i's data are the DATA_STRIDE of `bytes` from
+// DATA_STRIDE * i on.
 pub struct Instructions {
     pub count: usize,
     pub operations: usize,
@@ -44,7 +46,7 @@ pub struct Instructions {
     pub addresses: [u8; 40],
     pub sizes: [u8; 40],
     pub firsts: [u16; 40],
-    pub bytes: [u8; 320],
+    pub bytes: [u8; DATA_STRIDE * MOST_INSTRUCTIONS],
 }
 
 // The dependence pairs: numbers of the earlier and the later instruction.
@@ -67,9 +69,9 @@ pub enum Step {
     Next(usize),
 }
 
-// What the questions of one item come to.
+// What the questions of one item come to: it passes, and is so many bytes long; or the question that fails.
 pub enum Asked {
-    Pass,
+    Pass(usize),
     Fail(u8),
 }
 

@@ -78,7 +78,7 @@ module _ (part : List ℕ) (at : ℕ) where
     unfolding readLine next ask question4
     line-unknown h = fails (rw (item-there 9 at part room, item-first 9 at part (omega arith), lt-leb (getD part at 0) 2 h))
 
-    pub line-passes : getD part at 0 ≤ 2 → Answered (readLine (drop at part)) part at 9 Pass (lineOf (take 9 (drop at part)))
+    pub line-passes : getD part at 0 ≤ 2 → Answered (readLine (drop at part)) part at 9 (Pass 9) (lineOf (take 9 (drop at part)))
     unfolding readLine next ask question4
     line-passes h = passes (rw (item-there 9 at part room, item-first 9 at part (omega arith), le-leb (getD part at 0) 2 h)) room
 

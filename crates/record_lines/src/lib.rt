@@ -39,7 +39,7 @@ fn line_question(part: &[u8], at: usize) -> Asked
     if 2 < part[at] {
         return Asked::Fail(4);
     }
-    Asked::Pass
+    Asked::Pass(LINE_LENGTH)
 }
 
 // One line more, from the nine bytes at `at`.
@@ -76,9 +76,9 @@ fn line_entries(part: &[u8], n: u8) -> LinesRead
                     lines,
                 };
             }
-            Asked::Pass => {
+            Asked::Pass(size) => {
                 lines = with_line(lines, part, at);
-                at = at + LINE_LENGTH;
+                at = at + size;
             }
         }
     }

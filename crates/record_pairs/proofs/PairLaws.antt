@@ -93,7 +93,7 @@ module _ (is : List model.Instruction) (done : List (ℕ × ℕ)) (part : List �
       unfolding readPair next ask
       pair-low h = fails (rw (item-there 2 at part room, earlier, later, thirteen, h))
 
-      pub pair-good : question14 done m n ≡ true → Answered (readPair is done (drop at part)) part at 2 Pass (pairOf part at)
+      pub pair-good : question14 done m n ≡ true → Answered (readPair is done (drop at part)) part at 2 (Pass 2) (pairOf part at)
       unfolding readPair next ask
       pair-good h = passes (rw (item-there 2 at part room, earlier, later, thirteen, h) (λ i. found (first i, second i) (drop (at + 2) part))) room
 

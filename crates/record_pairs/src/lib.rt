@@ -105,7 +105,7 @@ fn pair_question(part: &[u8], at: usize, is: Instructions, x: Pairs) -> Asked
     if !pair_above(x, InstructionNo(m), InstructionNo(n)) {
         return Asked::Fail(14);
     }
-    Asked::Pass
+    Asked::Pass(PAIR_LENGTH)
 }
 
 // One pair more, from the two bytes at `at`.
@@ -142,9 +142,9 @@ fn pair_entries(part: &[u8], n: u8, is: Instructions) -> PairsRead
                     pairs,
                 };
             }
-            Asked::Pass => {
+            Asked::Pass(size) => {
                 pairs = with_pair(pairs, part, at);
-                at = at + PAIR_LENGTH;
+                at = at + size;
             }
         }
     }

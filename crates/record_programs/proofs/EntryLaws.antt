@@ -140,7 +140,7 @@ module _ (part : List ℕ) (at lines processors p : ℕ) (done : List Instructio
           entry-data h =
               fails (rw (item-there 11 at part room, six, kind, byte2, byte1, seven, eight, ← (spare-bytes part at size (size-small k size seven)), h))
 
-          pub entry-passes : all (eqb 0) (take (8 - size) (drop (at + 3 + size) part)) ≡ true → Asks Pass
+          pub entry-passes : all (eqb 0) (take (8 - size) (drop (at + 3 + size) part)) ≡ true → Asks (Pass 11)
           unfolding readInstruction next ask
           entry-passes h =
               passes (rw (item-there 11 at part room, six, kind, byte2, byte1, seven, eight, ← (spare-bytes part at size (size-small k size seven)), h)) room

@@ -15,11 +15,12 @@ use record_decoded::kind::Kind;
 use record_decoded::kind::is_fence;
 use record_decoded::kind::kind_of;
 use record_decoded::kind::operation_count;
+use record_decoded::position::Position;
 use record_decoded::types::Asked;
+use record_decoded::types::DATA_STRIDE;
 use record_decoded::types::ENTRY_LENGTH;
 use record_decoded::types::Instructions;
 use record_decoded::types::MOST_INSTRUCTIONS;
-use record_decoded::types::MOST_OPERATIONS;
 use record_decoded::types::Step;
 use record_decoded::types::copy_eight;
 use record_decoded::types::wide;
@@ -40,7 +41,7 @@ pub fn no_instructions() -> Instructions
         addresses: [0u8; 40],
         sizes: [0u8; 40],
         firsts: [0u16; 40],
-        bytes: [0u8; 320],
+        bytes: [0u8; DATA_STRIDE * MOST_INSTRUCTIONS],
     }
 }
 
@@ -113,7 +114,7 @@ fn instruction_question(part: &[u8], at: usize, lines: usize) -> Asked
     if !all_zero(part, at + 3 + s, 8 - s) {
         return Asked::Fail(9);
     }
-    Asked::Pass
+    Asked::Pass(ENTRY_LENGTH)
 }
 
 // One instruction more, of processor p, from the eleven bytes at `at`.
@@ -141,7 +142,7 @@ fn with_instruction(
     addresses[i] = part[at + 1];
     sizes[i] = part[at + 2];
     firsts[i] = first as u16;
-    copy_eight(&mut bytes, 8 * i, part, at + 3);
+    copy_eight(&mut bytes, DATA_STRIDE * i, part, at + 3);
     let count = i + 1;
     let operations = first + operation_count(kind, processors);
     Instructions {
@@ -180,9 +181,9 @@ fn program_entries(
                     instructions,
                 };
             }
-            Asked::Pass => {
+            Asked::Pass(size) => {
                 instructions = with_instruction(instructions, part, at, processors, p);
-                at = at + ENTRY_LENGTH;
+                at = at + size;
             }
         }
     }
@@ -270,7 +271,7 @@ pub fn read_instructions(part: &[u8], lines: usize, processors: usize) -> Instru
                     instructions,
                 };
             }
-            if MOST_OPERATIONS < instructions.operations {
+            if Position::LIMIT < instructions.operations {
                 return InstructionsRead {
                     step: Step::Refused(11),
                     instructions,

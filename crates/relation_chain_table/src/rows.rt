@@ -7,10 +7,16 @@ ghost use lib.Seq.{paste};
 ghost use Rattle.relation_chain_table.specs.Squares.{rowMarks, squareMarks};
 use crate::square::is_marked;
 use crate::square::mark_of;
+use record_decoded::position::Position;
 use record_decoded::types::OperationNo;
 
 // The n marks of one row.
-fn write_row(table: &mut [u8], m: &[[u8; 128]; 128], n: usize, from: OperationNo)
+fn write_row(
+    table: &mut [u8],
+    m: &[[u8; Position::LIMIT]; Position::LIMIT],
+    n: usize,
+    from: OperationNo,
+)
     requires { ⌜ (from .0 < n) × (n ≤ 128) × (n * n ≤ length (now table)) ⌝ }
     ensures { λ _. ⌜ now (table .exit) ≡ paste (now (table .entry)) (from .0 * n) (rowMarks (now (m .entry)) n (from .0)) n ⌝ }
 {
@@ -22,7 +28,7 @@ fn write_row(table: &mut [u8], m: &[[u8; 128]; 128], n: usize, from: OperationNo
 }
 
 // The n rows.
-pub fn write_rows(table: &mut [u8], m: &[[u8; 128]; 128], n: usize)
+pub fn write_rows(table: &mut [u8], m: &[[u8; Position::LIMIT]; Position::LIMIT], n: usize)
     requires { ⌜ (n ≤ 128) × (n * n ≤ length (now table)) ⌝ }
     ensures { λ _. ⌜ now (table .exit) ≡ squareMarks (now (m .entry)) n n ++ drop (n * n) (now (table .entry)) ⌝ }
 {

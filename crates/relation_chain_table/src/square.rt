@@ -5,6 +5,7 @@ ghost use lib.ListN.{getD};
 ghost use lib.Dec.{eqb};
 ghost use Rattle.relation_links.specs.Linked.{linkedAt};
 ghost use Rattle.relation_chain_table.specs.Squares.{markOf, marked, MarksAre};
+use record_decoded::position::Position;
 use record_decoded::types::Instructions;
 use record_decoded::types::OperationNo;
 use record_decoded::types::wide;
@@ -19,7 +20,11 @@ pub fn mark_of(holds: bool) -> u8
 }
 
 // Whether the cell of a row and a column is 1.
-pub fn is_marked(m: &[[u8; 128]; 128], from: OperationNo, to: OperationNo) -> bool
+pub fn is_marked(
+    m: &[[u8; Position::LIMIT]; Position::LIMIT],
+    from: OperationNo,
+    to: OperationNo,
+) -> bool
     requires { ⌜ (from .0 < 128) × (to .0 < 128) ⌝ }
     ensures { λ r. ⌜ r ≡ marked (now (m .entry)) (from .0) (to .0) ⌝ }
 {
@@ -34,7 +39,7 @@ fn links_row(
     t: Operations,
     marks: &[[u16; 40]; 40],
     from: OperationNo,
-) -> [u8; 128]
+) -> [u8; Position::LIMIT]
     requires { ⌜ (from .0 < t .count) × (t .count ≤ 128) × ((o : ℕ) → o < t .count → getD (t .owners) o 0 < 40) ⌝ }
     ensures { λ r. ⌜ ((b : ℕ) → b < t .count → eqb (getD r b 0) 1 ≡ linkedAt is t (now (marks .entry)) (from .0) b) ⌝ }
 {
@@ -46,7 +51,7 @@ fn links_row(
     let first = wide(owners[a]);
     let processor = processors[first];
     let role = roles[a];
-    let mut row = [0u8; 128];
+    let mut row = [0u8; Position::LIMIT];
     for b in 0..n {
         let second = wide(owners[b]);
         let between = marks[first][second];
@@ -56,12 +61,16 @@ fn links_row(
 }
 
 // The links between all operations.
-pub fn links_square(is: Instructions, t: Operations, marks: &[[u16; 40]; 40]) -> [[u8; 128]; 128]
+pub fn links_square(
+    is: Instructions,
+    t: Operations,
+    marks: &[[u16; 40]; 40],
+) -> [[u8; Position::LIMIT]; Position::LIMIT]
     requires { ⌜ (t .count ≤ 128) × ((o : ℕ) → o < t .count → getD (t .owners) o 0 < 40) ⌝ }
     ensures { λ r. ⌜ MarksAre (t .count) r (linkedAt is t (now (marks .entry))) ⌝ }
 {
     let n = t.count;
-    let mut square = [[0u8; 128]; 128];
+    let mut square = [[0u8; Position::LIMIT]; Position::LIMIT];
     for a in 0..n {
         square[a] = links_row(is, t, marks, OperationNo(a));
     }

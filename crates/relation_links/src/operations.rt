@@ -11,13 +11,14 @@ ghost use Rattle.relation_links.specs.Operations.{tableOf, Tabled};
 use record_decoded::kind::kind_of;
 use record_decoded::kind::operation_count;
 use record_decoded::kind::role_of;
+use record_decoded::position::Position;
 use record_decoded::types::InstructionNo;
 use record_decoded::types::Instructions;
 
 pub struct Operations {
     pub count: usize,
-    pub owners: [u8; 128],
-    pub roles: [u8; 128],
+    pub owners: [u8; Position::LIMIT],
+    pub roles: [u8; Position::LIMIT],
 }
 
 // The table with the operations of one instruction more.
@@ -60,8 +61,8 @@ pub fn operations_of(is: Instructions, processors: usize) -> Operations
     let n = is.count;
     let mut table = Operations {
         count: 0,
-        owners: [0u8; 128],
-        roles: [0u8; 128],
+        owners: [0u8; Position::LIMIT],
+        roles: [0u8; Position::LIMIT],
     };
     for i in 0..n {
         table = with_operations(table, is, InstructionNo(i), processors);

@@ -2,6 +2,7 @@
 ghost use mathlib.Core.Path.{_≡_};
 ghost use Prim.Native.Nat.{_≤_};
 ghost use Rattle.relation_places.specs.Places.{placed, Placement, beforeBy};
+use record_decoded::position::Position;
 use record_decoded::types::wide;
 
 // The place of an operation that does not stand.
@@ -10,14 +11,14 @@ pub const ABSENT: u8 = 255;
 // Whether the entries are different operations below `n`, and if so the place of each.
 pub struct Placing {
     pub distinct: bool,
-    pub places: [u8; 128],
+    pub places: [u8; Position::LIMIT],
 }
 
 // The place of an operation.
-pub fn place_of(places: &[u8; 128], operation: usize) -> u8
+pub fn place_of(places: &[u8; Position::LIMIT], operation: usize) -> u8
     ensures { λ r. ⌜ r ≡ placed (now (places .entry)) operation ⌝ }
 {
-    if operation < 128 {
+    if operation < Position::LIMIT {
         places[operation]
     } else {
         ABSENT
@@ -25,7 +26,7 @@ pub fn place_of(places: &[u8; 128], operation: usize) -> u8
 }
 
 // Whether operation a stands, and b stands later or not at all.
-pub fn before(places: &[u8; 128], a: usize, b: usize) -> bool
+pub fn before(places: &[u8; Position::LIMIT], a: usize, b: usize) -> bool
     ensures { λ r. ⌜ r ≡ beforeBy (now (places .entry)) a b ⌝ }
 {
     place_of(places, a) < place_of(places, b)
@@ -36,7 +37,7 @@ pub fn place_all(order: &[u8], n: usize) -> Placing
     requires { ⌜ n ≤ 128 ⌝ }
     ensures { λ r. ⌜ Placement n (now (order .entry)) r ⌝ }
 {
-    let mut places = [ABSENT; 128];
+    let mut places = [ABSENT; Position::LIMIT];
     for k in 0..order.len() {
         let o = wide(order[k]);
         if o >= n {

@@ -9,6 +9,7 @@ ghost use Rattle.search_sets.specs.Set.{holds};
 ghost use Rattle.search_admit.specs.Rows.{field, writtenBits, writtenWord, localOf, wordsWith};
 ghost use lib.Dec.{ltb};
 ghost use Rattle.search_admit.specs.Fits.{bothOrNeither, waitsFor, refused, localBit, readsRecorded, enabled};
+use record_decoded::position::Position;
 use relation_places::before;
 use search_sets::Set;
 use search_sets::first;
@@ -43,33 +44,42 @@ pub const OWN: usize = 15;
 
 pub const LOCAL: usize = 16;
 
+// The words of a row, those of all rows, the words of memory, and both together: the rows, then the words of memory before any operation.
+pub const ROW: usize = 17;
+
+pub const ROWS: usize = ROW * Position::LIMIT;
+
+pub const WORDS: usize = 128;
+
+pub const TABLE: usize = ROWS + WORDS;
+
 // Word f of the row of operation x.
-pub fn field_of(rows: &[u64; 2304], x: usize, f: usize) -> u64
+pub fn field_of(rows: &[u64; TABLE], x: usize, f: usize) -> u64
     requires { ⌜ (x < 128) × (f < 17) ⌝ }
     ensures { λ r. ⌜ r ≡ field (now (rows .entry)) f x ⌝ }
 {
-    rows[17 * x + f]
+    rows[ROW * x + f]
 }
 
-// A word of memory; there are 128.
-fn word_at(words: &[u64; 128], at: u64) -> u64
+// A word of memory.
+fn word_at(words: &[u64; WORDS], at: u64) -> u64
     ensures { λ r. ⌜ r ≡ getD (now (words .entry)) (at % 128) 0 ⌝ }
 {
     words[(at % 128) as usize]
 }
 
 // The set in words f and f + 1 of the row of operation x.
-pub fn set_of(rows: &[u64; 2304], x: usize, f: usize) -> Set
+pub fn set_of(rows: &[u64; TABLE], x: usize, f: usize) -> Set
     requires { ⌜ (x < 128) × (f < 16) ⌝ }
     ensures { λ r. ⌜ (r .lo ≡ field (now (rows .entry)) f x) × (r .hi ≡ field (now (rows .entry)) (f + 1) x) ⌝ }
 {
-    let lo = rows[17 * x + f];
-    let hi = rows[17 * x + (f + 1)];
+    let lo = rows[ROW * x + f];
+    let hi = rows[ROW * x + (f + 1)];
     Set { lo, hi }
 }
 
 // Whether operation x must wait for operation m, which does not stand.
-fn waits_for(rows: &[u64; 2304], places: &[u8; 128], x: usize, m: usize) -> bool
+fn waits_for(rows: &[u64; TABLE], places: &[u8; Position::LIMIT], x: usize, m: usize) -> bool
     requires { ⌜ (x < 128) × (m < 128) ⌝ }
     ensures { λ r. ⌜ r ≡ waitsFor (now (rows .entry)) (now (places .entry)) x m ⌝ }
 {
@@ -90,7 +100,12 @@ fn waits_for(rows: &[u64; 2304], places: &[u8; 128], x: usize, m: usize) -> bool
 }
 
 // Whether operation x must wait for one of those that are missing.
-fn waits_for_any(rows: &[u64; 2304], places: &[u8; 128], missing: Set, x: usize) -> bool
+fn waits_for_any(
+    rows: &[u64; TABLE],
+    places: &[u8; Position::LIMIT],
+    missing: Set,
+    x: usize,
+) -> bool
     requires { ⌜ x < 128 ⌝ }
     ensures { λ r. ⌜ r ≡ anyBelow 128 (λ (m : ℕ). holds (missing .lo) (missing .hi) m && waitsFor (now (rows .entry)) (now (places .entry)) x m) ⌝ }
 {
@@ -106,7 +121,7 @@ fn waits_for_any(rows: &[u64; 2304], places: &[u8; 128], missing: Set, x: usize)
 }
 
 // Rules 9, 10 and 14: whether operation x must wait for an operation that does not stand. Mostly none is missing, so that is asked first.
-pub fn is_refused(rows: &[u64; 2304], places: &[u8; 128], stand: Set, x: usize) -> bool
+pub fn is_refused(rows: &[u64; TABLE], places: &[u8; Position::LIMIT], stand: Set, x: usize) -> bool
     requires { ⌜ x < 128 ⌝ }
     ensures { λ r. ⌜ r ≡ refused (now (rows .entry)) (now (places .entry)) (stand .lo) (stand .hi) x ⌝ }
 {
@@ -118,7 +133,7 @@ pub fn is_refused(rows: &[u64; 2304], places: &[u8; 128], stand: Set, x: usize) 
 }
 
 // The bits that the store of m wrote, where its LV stands.
-fn bits_of(rows: &[u64; 2304], stand: Set, m: usize) -> u64
+fn bits_of(rows: &[u64; TABLE], stand: Set, m: usize) -> u64
     requires { ⌜ m < 128 ⌝ }
     ensures { λ r. ⌜ ((i : ℕ) → bit r i ≡ (ltb (localOf (now (rows .entry)) m) 128 && holds (stand .lo) (stand .hi) (localOf (now (rows .entry)) m) && bit (writtenBits (now (rows .entry)) m) i)) ⌝ }
 {
@@ -133,7 +148,7 @@ fn bits_of(rows: &[u64; 2304], stand: Set, m: usize) -> u64
 }
 
 // The bits that those of the missing stores wrote whose LVs stand.
-fn pending_bits(rows: &[u64; 2304], stand: Set, missing: Set) -> u64
+fn pending_bits(rows: &[u64; TABLE], stand: Set, missing: Set) -> u64
     ensures { λ r. ⌜ ((i : ℕ) → bit r i ≡ anyBelow 128 (λ (m : ℕ). holds (missing .lo) (missing .hi) m && (ltb (localOf (now (rows .entry)) m) 128 && holds (stand .lo) (stand .hi) (localOf (now (rows .entry)) m) && bit (writtenBits (now (rows .entry)) m) i))) ⌝ }
 {
     let mut bits = 0;
@@ -147,7 +162,7 @@ fn pending_bits(rows: &[u64; 2304], stand: Set, missing: Set) -> u64
 }
 
 // The bits that the R x reads from what its own processor wrote. Mostly no store is missing, so that is asked first.
-fn local_bits(rows: &[u64; 2304], stand: Set, x: usize) -> u64
+fn local_bits(rows: &[u64; TABLE], stand: Set, x: usize) -> u64
     requires { ⌜ x < 128 ⌝ }
     ensures { λ r. ⌜ ((i : ℕ) → bit r i ≡ localBit (now (rows .entry)) (stand .lo) (stand .hi) x i) ⌝ }
 {
@@ -167,7 +182,7 @@ fn agrees(own: u64, visible: u64, local: u64, data: u64, bits: u64) -> bool
 }
 
 // Rule 11: whether operation x reads what is recorded.
-fn reads_right(rows: &[u64; 2304], words: &[u64; 128], stand: Set, x: usize) -> bool
+fn reads_right(rows: &[u64; TABLE], words: &[u64; WORDS], stand: Set, x: usize) -> bool
     requires { ⌜ x < 128 ⌝ }
     ensures { λ r. ⌜ r ≡ readsRecorded (now (rows .entry)) (stand .lo) (stand .hi) (now (words .entry)) x ⌝ }
 {
@@ -182,7 +197,7 @@ fn reads_right(rows: &[u64; 2304], words: &[u64; 128], stand: Set, x: usize) -> 
 }
 
 // Whether what must stand before operation x stands, and x reads what is recorded: `stand` has the operations that stand, `words` what they wrote.
-pub fn is_enabled(rows: &[u64; 2304], words: &[u64; 128], stand: Set, x: usize) -> bool
+pub fn is_enabled(rows: &[u64; TABLE], words: &[u64; WORDS], stand: Set, x: usize) -> bool
     requires { ⌜ x < 128 ⌝ }
     ensures { λ r. ⌜ r ≡ enabled (now (rows .entry)) (stand .lo) (stand .hi) (now (words .entry)) x ⌝ }
 {
@@ -193,7 +208,7 @@ pub fn is_enabled(rows: &[u64; 2304], words: &[u64; 128], stand: Set, x: usize) 
 }
 
 // Whether operation x is enabled before any operation stands: nothing must stand before it, and it reads what its own processor has not written.
-pub fn is_enabled_first(rows: &[u64; 2304], words: &[u64; 128], x: usize) -> bool
+pub fn is_enabled_first(rows: &[u64; TABLE], words: &[u64; WORDS], x: usize) -> bool
     requires { ⌜ x < 128 ⌝ }
     ensures { λ r. ⌜ r ≡ enabled (now (rows .entry)) 0 0 (now (words .entry)) x ⌝ }
 {
@@ -208,7 +223,7 @@ pub fn is_enabled_first(rows: &[u64; 2304], words: &[u64; 128], x: usize) -> boo
 }
 
 // Writes what operation x writes, and answers with the word that was there.
-pub fn write(rows: &[u64; 2304], words: &mut [u64], x: usize) -> u64
+pub fn write(rows: &[u64; TABLE], words: &mut [u64], x: usize) -> u64
     requires { ⌜ (x < 128) × (length (now words) ≡ 128) ⌝ }
     ensures { λ r. ⌜ (r ≡ getD (now (words .entry)) (writtenWord (now (rows .entry)) x) 0) × (now (words .exit) ≡ wordsWith (now (rows .entry)) (now (words .entry)) x) ⌝ }
 {
@@ -220,7 +235,7 @@ pub fn write(rows: &[u64; 2304], words: &mut [u64], x: usize) -> u64
 }
 
 // Puts back the word that operation x wrote over.
-pub fn unwrite(rows: &[u64; 2304], words: &mut [u64], x: usize, old: u64)
+pub fn unwrite(rows: &[u64; TABLE], words: &mut [u64], x: usize, old: u64)
     requires { ⌜ (x < 128) × (length (now words) ≡ 128) ⌝ }
     ensures { λ _. ⌜ now (words .exit) ≡ set (now (words .entry)) (writtenWord (now (rows .entry)) x) old ⌝ }
 {

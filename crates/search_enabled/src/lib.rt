@@ -9,13 +9,16 @@ ghost use Rattle.search_sets.specs.Set.{holds, setAt};
 ghost use Rattle.search_admit.specs.Rows.{localOf};
 ghost use Rattle.search_admit.specs.Fits.{enabled, dueAfter};
 ghost use Rattle.search_enabled.specs.Affects.{writesWordOf, affects, Affecting, enabledAfter};
+use record_decoded::position::Position;
 use search_admit::BYPASSES;
 use search_admit::LOCAL;
 use search_admit::OWN_WORD;
 use search_admit::PARTNERS;
 use search_admit::PREDS;
 use search_admit::READ_BITS;
+use search_admit::TABLE;
 use search_admit::VISIBLE_WORD;
+use search_admit::WORDS;
 use search_admit::WRITTEN_WORD;
 use search_admit::field_of;
 use search_admit::is_enabled;
@@ -32,8 +35,11 @@ use search_sets::put;
 use search_sets::subset;
 use search_sets::union;
 
+// The words of a table of sets, one for each operation.
+pub const AFFECTED: usize = 2 * Position::LIMIT;
+
 // A set, with the LVs of stores that are given by their own RVs.
-fn with_locals(set: Set, rows: &[u64; 2304], stores: Set) -> Set
+fn with_locals(set: Set, rows: &[u64; TABLE], stores: Set) -> Set
     ensures { λ r. ⌜ ((a : ℕ) → a < 128 → holds (r .lo) (r .hi) a ≡ (holds (set .lo) (set .hi) a || anyBelow 128 (λ (m : ℕ). holds (stores .lo) (stores .hi) m && eqb (localOf (now (rows .entry)) m) a))) ⌝ }
 {
     let mut all = set;
@@ -48,7 +54,7 @@ fn with_locals(set: Set, rows: &[u64; 2304], stores: Set) -> Set
 }
 
 // Whether operation a writes a word that the R y reads.
-fn writes_to(rows: &[u64; 2304], a: usize, y: usize) -> bool
+fn writes_to(rows: &[u64; TABLE], a: usize, y: usize) -> bool
     requires { ⌜ (a < 128) × (y < 128) ⌝ }
     ensures { λ r. ⌜ r ≡ writesWordOf (now (rows .entry)) a y ⌝ }
 {
@@ -60,7 +66,7 @@ fn writes_to(rows: &[u64; 2304], a: usize, y: usize) -> bool
 }
 
 // A set, with the operations of n that write a word that the R y reads.
-fn with_writers(set: Set, n: usize, rows: &[u64; 2304], y: usize) -> Set
+fn with_writers(set: Set, n: usize, rows: &[u64; TABLE], y: usize) -> Set
     requires { ⌜ (n ≤ 128) × (y < 128) ⌝ }
     ensures { λ r. ⌜ ((a : ℕ) → a < n → holds (r .lo) (r .hi) a ≡ (holds (set .lo) (set .hi) a || writesWordOf (now (rows .entry)) a y)) ⌝ }
 {
@@ -73,7 +79,7 @@ fn with_writers(set: Set, n: usize, rows: &[u64; 2304], y: usize) -> Set
 }
 
 // The operations, of n, that may change whether y is enabled.
-fn all_affecting(n: usize, rows: &[u64; 2304], y: usize) -> Set
+fn all_affecting(n: usize, rows: &[u64; TABLE], y: usize) -> Set
     requires { ⌜ (n ≤ 128) × (y < 128) ⌝ }
     ensures { λ r. ⌜ ((a : ℕ) → a < n → holds (r .lo) (r .hi) a ≡ affects (now (rows .entry)) a y) ⌝ }
 {
@@ -101,11 +107,11 @@ fn put_affected(affected: &mut [u64], affecting: Set, y: usize)
 }
 
 // For each operation those that it affects.
-pub fn affected_by(n: usize, rows: &[u64; 2304]) -> [u64; 256]
+pub fn affected_by(n: usize, rows: &[u64; TABLE]) -> [u64; AFFECTED]
     requires { ⌜ n ≤ 128 ⌝ }
     ensures { λ r. ⌜ Affecting n (now (rows .entry)) r ⌝ }
 {
-    let mut affected = [0u64; 256];
+    let mut affected = [0u64; AFFECTED];
     for y in 0..n {
         let affecting = all_affecting(n, rows, y);
         put_affected(&mut affected, affecting, y);
@@ -114,7 +120,7 @@ pub fn affected_by(n: usize, rows: &[u64; 2304]) -> [u64; 256]
 }
 
 // The operations of n that are enabled before any stands.
-pub fn first_enabled(n: usize, rows: &[u64; 2304], words: &[u64; 128]) -> Set
+pub fn first_enabled(n: usize, rows: &[u64; TABLE], words: &[u64; WORDS]) -> Set
     requires { ⌜ n ≤ 128 ⌝ }
     ensures { λ r. ⌜ ((y : ℕ) → y < n → holds (r .lo) (r .hi) y ≡ enabled (now (rows .entry)) 0 0 (now (words .entry)) y) ⌝ }
 {
@@ -128,9 +134,9 @@ pub fn first_enabled(n: usize, rows: &[u64; 2304], words: &[u64; 128]) -> Set
 
 // Those that are enabled behind x, the last that stands, by those that were before.
 pub fn enabled_after(
-    rows: &[u64; 2304],
-    affected: &[u64; 256],
-    words: &[u64; 128],
+    rows: &[u64; TABLE],
+    affected: &[u64; AFFECTED],
+    words: &[u64; WORDS],
     before: Set,
     stand: Set,
     x: usize,
@@ -156,7 +162,7 @@ pub fn enabled_after(
 }
 
 // Those of them that may follow x as far as rule 12 goes.
-pub fn open_after(rows: &[u64; 2304], set: Set, stand: Set, x: usize) -> Set
+pub fn open_after(rows: &[u64; TABLE], set: Set, stand: Set, x: usize) -> Set
     requires { ⌜ x < 128 ⌝ }
     ensures { λ r. ⌜ ((y : ℕ) → holds (r .lo) (r .hi) y ≡ (dueAfter (now (rows .entry)) x (stand .lo) (stand .hi) y && holds (set .lo) (set .hi) y)) ⌝ }
 {

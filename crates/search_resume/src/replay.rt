@@ -9,35 +9,41 @@ ghost use Rattle.search_admit.specs.Rows.{firstWords};
 ghost use Rattle.search_enabled.specs.Affects.{Affecting};
 ghost use Rattle.search_walk.specs.Walks.{Levels, Kept};
 ghost use Rattle.search_resume.specs.Replays.{Replayed};
+use record_decoded::position::Position;
 use record_decoded::types::wide;
+use search_admit::ROWS;
+use search_admit::TABLE;
+use search_admit::WORDS;
+use search_enabled::AFFECTED;
 use search_enabled::first_enabled;
 use search_sets::at;
 use search_sets::has;
 use search_sets::put;
 use search_walk::ENABLED;
+use search_walk::LEVELS;
 use search_walk::OPEN;
 use search_walk::SETS;
 use search_walk::enter;
 
 // The words of memory before any operation.
-pub fn first_words(rows: &[u64]) -> [u64; 128]
+pub fn first_words(rows: &[u64]) -> [u64; WORDS]
     requires { ⌜ length (now rows) ≡ 2304 ⌝ }
     ensures { λ r. ⌜ r ≡ firstWords (now (rows .entry)) ⌝ }
 {
-    let mut words = [0u64; 128];
-    for i in 0..128 {
-        words[i] = rows[2176 + i];
+    let mut words = [0u64; WORDS];
+    for i in 0..WORDS {
+        words[i] = rows[ROWS + i];
     }
     words
 }
 
 // The sets before any operation.
-pub fn first_level(n: usize, rows: &[u64; 2304], words: &[u64; 128]) -> [u64; 774]
+pub fn first_level(n: usize, rows: &[u64; TABLE], words: &[u64; WORDS]) -> [u64; LEVELS]
     requires { ⌜ (n ≤ 128) × (now words ≡ firstWords (now rows)) ⌝ }
     ensures { λ r. ⌜ ((position : List ℕ) → Levels n (now (rows .entry)) position r 0) ⌝ }
 {
     let enabled = first_enabled(n, rows, words);
-    let mut levels = [0u64; 774];
+    let mut levels = [0u64; LEVELS];
     put(&mut levels, ENABLED, enabled);
     put(&mut levels, OPEN, enabled);
     levels
@@ -46,14 +52,14 @@ pub fn first_level(n: usize, rows: &[u64; 2304], words: &[u64; 128]) -> [u64; 77
 // Whether the first `size` entries, which differ, pass the tests; if so, their places, sets and words are made.
 pub fn replay(
     n: usize,
-    entries: &mut [u8; 128],
+    entries: &mut [u8; Position::LIMIT],
     size: usize,
-    places: &mut [u8; 128],
-    levels: &mut [u64; 774],
-    words: &mut [u64; 128],
-    replaced: &mut [u64; 128],
-    rows: &[u64; 2304],
-    affected: &[u64; 256],
+    places: &mut [u8; Position::LIMIT],
+    levels: &mut [u64; LEVELS],
+    words: &mut [u64; WORDS],
+    replaced: &mut [u64; Position::LIMIT],
+    rows: &[u64; TABLE],
+    affected: &[u64; AFFECTED],
 ) -> bool
     requires { ⌜ (n ≤ 128) × (size ≤ n) × (distinct n [] (take size (now entries)) ≡ true) × Kept n (now rows) (now entries) (now places) (now levels) (now words) (now replaced) 0 × Affecting n (now rows) (now affected) ⌝ }
     requires { ⌜ (length (now entries) ≡ 128) × (length (now places) ≡ 128) × (length (now words) ≡ 128) ⌝ }

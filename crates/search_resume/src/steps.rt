@@ -14,6 +14,10 @@ use crate::replay::first_words;
 use crate::replay::replay;
 use record_decoded::position::Position;
 use relation_places::ABSENT;
+use search_admit::TABLE;
+use search_admit::WORDS;
+use search_enabled::AFFECTED;
+use search_walk::LEVELS;
 use search_walk::WalkAnswer;
 use search_walk::walk;
 
@@ -47,13 +51,13 @@ fn without_step(consistent: bool, verdict: Verdict, given: Position) -> Outcome
 fn make_steps(
     n: usize,
     given: Position,
-    placed: [u8; 128],
-    sets: [u64; 774],
-    wrote: [u64; 128],
-    over: [u64; 128],
+    placed: [u8; Position::LIMIT],
+    sets: [u64; LEVELS],
+    wrote: [u64; WORDS],
+    over: [u64; Position::LIMIT],
     allowance: u32,
-    rows: &[u64; 2304],
-    affected: &[u64; 256],
+    rows: &[u64; TABLE],
+    affected: &[u64; AFFECTED],
 ) -> Outcome
     requires { ⌜ (n ≤ 128) × (given .length < n) × Kept n (now rows) (given .entries) placed sets wrote over (given .length) × Affecting n (now rows) (now affected) ⌝ }
     requires { ⌜ (ListN.length (given .entries) ≡ 128) × (ListN.length placed ≡ 128) × (ListN.length wrote ≡ 128) ⌝ }
@@ -137,18 +141,18 @@ pub fn search_from(
     n: usize,
     given: Position,
     allowance: u32,
-    rows: &[u64; 2304],
-    affected: &[u64; 256],
+    rows: &[u64; TABLE],
+    affected: &[u64; AFFECTED],
 ) -> Outcome
     requires { ⌜ (n ≤ 128) × (given .length ≤ n) × (distinct n [] (positionOf given) ≡ true) × (ListN.length (given .entries) ≡ 128) × Affecting n (now rows) (now affected) ⌝ }
     ensures { λ r. ⌜ SearchedFrom n (now (rows .entry)) (positionOf given) allowance r ⌝ }
 {
     let mut entries = given.entries;
     let length = given.length;
-    let mut places = [ABSENT; 128];
+    let mut places = [ABSENT; Position::LIMIT];
     let mut words = first_words(rows);
     let mut levels = first_level(n, rows, &words);
-    let mut replaced = [0u64; 128];
+    let mut replaced = [0u64; Position::LIMIT];
     let consistent = replay(
         n,
         &mut entries,

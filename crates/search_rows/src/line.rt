@@ -6,7 +6,9 @@ ghost use lib.ListN.{length, getD};
 ghost use lib.Dec.{eqb, leb, ltb};
 ghost use Rattle.base.specs.Bits.{bit};
 ghost use Rattle.search_admit.specs.Rows.{Bytes};
+use record_decoded::types::DATA_STRIDE;
 use record_decoded::types::Lines;
+use record_decoded::types::MOST_INSTRUCTIONS;
 use record_decoded::types::wide;
 
 // A word, with a byte at a place among its eight where nothing stands yet.
@@ -44,11 +46,16 @@ fn bytes_from(bytes: &[u8], at: usize, place: usize, size: usize) -> u64
 }
 
 // So many data bytes of instruction w, from a place on.
-pub fn data_from(bytes: &[u8; 320], w: usize, place: usize, size: usize) -> u64
+pub fn data_from(
+    bytes: &[u8; DATA_STRIDE * MOST_INSTRUCTIONS],
+    w: usize,
+    place: usize,
+    size: usize,
+) -> u64
     requires { ⌜ (w < 40) × (place + size ≤ 8) ⌝ }
     ensures { λ r. ⌜ ((i : ℕ) → i < 64 → bit r i ≡ (leb place (i / 8) && ltb (i / 8) (place + size) && bit (getD (now (bytes .entry)) (8 * w + (i / 8 - place)) 0) (i % 8))) ⌝ }
 {
-    bytes_from(bytes, 8 * w, place, size)
+    bytes_from(bytes, DATA_STRIDE * w, place, size)
 }
 
 // The initial bytes of a line.

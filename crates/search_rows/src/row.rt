@@ -15,10 +15,14 @@ use crate::line::data_from;
 use record_decoded::kind::ROLE_LV;
 use record_decoded::kind::ROLE_R;
 use record_decoded::kind::ROLE_RV;
+use record_decoded::position::Position;
+use record_decoded::types::DATA_STRIDE;
 use record_decoded::types::Execution;
+use record_decoded::types::MOST_INSTRUCTIONS;
 use record_decoded::types::wide;
 use record_decoded::types::wide16;
 use relation_links::operations::Operations;
+use search_admit::ROW;
 use search_constraints::awaited_at;
 use search_constraints::bypasses_at;
 use search_constraints::partners_at;
@@ -69,16 +73,16 @@ pub fn row_of<'a>(
     x: Execution,
     t: Operations,
     marks: &'a [[u16; 40]; 40],
-    owners: &'a [u8; 128],
-    roles: &'a [u8; 128],
+    owners: &'a [u8; Position::LIMIT],
+    roles: &'a [u8; Position::LIMIT],
     kinds: &'a [u8; 40],
     firsts: &'a [u16; 40],
     processors: &'a [u8; 40],
     addresses: &'a [u8; 40],
     sizes: &'a [u8; 40],
-    bytes: &'a [u8; 320],
+    bytes: &'a [u8; DATA_STRIDE * MOST_INSTRUCTIONS],
     o: usize,
-) -> [u64; 17]
+) -> [u64; ROW]
     requires { ⌜ Compiled x t (now marks) × Accepted (executionOf x) × (o < operations (executionOf x)) × Lent x t (now owners) (now roles) (now kinds) (now firsts) (now processors) (now addresses) (now sizes) (now bytes) ⌝ }
     ensures { λ r. ⌜ RowOf x t (now (marks .entry)) o (λ (f : ℕ). getD r f 0) ⌝ }
 {

@@ -12,14 +12,18 @@ use crate::line::known_bytes;
 use crate::row::row_of;
 use record_decoded::types::Execution;
 use relation_links::operations::Operations;
+use search_admit::ROW;
+use search_admit::ROWS;
+use search_admit::TABLE;
+use search_admit::WORDS;
 
 // Puts the first words in: the initial bytes of each line, for each processor and each kind of word.
-fn put_first(rows: &mut [u64; 2304], x: Execution)
+fn put_first(rows: &mut [u64; TABLE], x: Execution)
     requires { ⌜ length (now rows) ≡ 2304 ⌝ }
     ensures { λ _. ⌜ (length (now (rows .exit)) ≡ 2304) × Initial x (firstWords (now (rows .exit))) ⌝ }
 {
-    for c in 0..128 {
-        rows[2176 + c] = initial_word(x.lines, c % 8);
+    for c in 0..WORDS {
+        rows[ROWS + c] = initial_word(x.lines, c % 8);
     }
 }
 
@@ -28,8 +32,8 @@ fn put_row(rows: &mut [u64], o: usize, row: &[u64])
     requires { ⌜ (o < 128) × (length (now rows) ≡ 2304) × (length (now row) ≡ 17) ⌝ }
     ensures { λ _. ⌜ Put (now (rows .entry)) (now (row .entry)) (17 * o) 17 (now (rows .exit)) ⌝ }
 {
-    let at = 17 * o;
-    for f in 0..17 {
+    let at = ROW * o;
+    for f in 0..ROW {
         rows[at + f] = row[f];
     }
 }
@@ -47,7 +51,7 @@ fn known_data(x: Execution)
 }
 
 // What is compiled of an execution.
-pub fn rows_of(x: Execution, t: Operations, marks: &[[u16; 40]; 40]) -> [u64; 2304]
+pub fn rows_of(x: Execution, t: Operations, marks: &[[u16; 40]; 40]) -> [u64; TABLE]
     requires { ⌜ Compiled x t (now marks) × Accepted (executionOf x) ⌝ }
     ensures { λ r. ⌜ RowsMean x t (now (marks .entry)) r ⌝ }
 {
@@ -61,7 +65,7 @@ pub fn rows_of(x: Execution, t: Operations, marks: &[[u16; 40]; 40]) -> [u64; 23
     let addresses = is.addresses;
     let sizes = is.sizes;
     let bytes = is.bytes;
-    let mut rows = [0u64; 2304];
+    let mut rows = [0u64; TABLE];
     put_first(&mut rows, x);
     for o in 0..n {
         let row = row_of(

@@ -5,11 +5,15 @@ ghost use lib.ListN.{length, getD, set, take};
 ghost use Rattle.search_admit.specs.Rows.{writtenWord, wordsWith};
 ghost use Rattle.search_enabled.specs.Affects.{Affecting};
 ghost use Rattle.search_walk.specs.Walks.{Level, Entered, Kept, Walked};
+use record_decoded::position::Position;
 use record_decoded::types::wide;
 use relation_places::ABSENT;
+use search_admit::TABLE;
+use search_admit::WORDS;
 use search_admit::is_refused;
 use search_admit::unwrite;
 use search_admit::write;
+use search_enabled::AFFECTED;
 use search_enabled::enabled_after;
 use search_enabled::open_after;
 use search_sets::at;
@@ -30,13 +34,16 @@ pub const ENABLED: usize = 1;
 
 pub const OPEN: usize = 2;
 
+// The words of the sets of all levels: one level for each number of entries, two words a set.
+pub const LEVELS: usize = 2 * SETS * (Position::LIMIT + 1);
+
 // Makes the sets of level k + 1 from those of level k, x being the entry at k.
 fn add_level(
     levels: &mut [u64],
     k: usize,
-    words: &[u64; 128],
-    rows: &[u64; 2304],
-    affected: &[u64; 256],
+    words: &[u64; WORDS],
+    rows: &[u64; TABLE],
+    affected: &[u64; AFFECTED],
     x: usize,
 )
     requires { ⌜ (k < 128) × (x < 128) × (length (now levels) ≡ 774) ⌝ }
@@ -58,10 +65,10 @@ fn add_entry(
     k: usize,
     places: &mut [u8],
     levels: &mut [u64],
-    words: &mut [u64; 128],
+    words: &mut [u64; WORDS],
     replaced: &mut [u64],
-    rows: &[u64; 2304],
-    affected: &[u64; 256],
+    rows: &[u64; TABLE],
+    affected: &[u64; AFFECTED],
     x: usize,
 )
     requires { ⌜ (k < 128) × (x < 128) × (length (now position) ≡ 128) × (length (now places) ≡ 128) × (length (now levels) ≡ 774) × (length (now words) ≡ 128) × (length (now replaced) ≡ 128) ⌝ }
@@ -75,14 +82,14 @@ fn add_entry(
 
 // Operation x, which is open at level k, as the entry at k, if it is not refused.
 pub fn enter(
-    position: &mut [u8; 128],
+    position: &mut [u8; Position::LIMIT],
     k: usize,
-    places: &mut [u8; 128],
-    levels: &mut [u64; 774],
-    words: &mut [u64; 128],
-    replaced: &mut [u64; 128],
-    rows: &[u64; 2304],
-    affected: &[u64; 256],
+    places: &mut [u8; Position::LIMIT],
+    levels: &mut [u64; LEVELS],
+    words: &mut [u64; WORDS],
+    replaced: &mut [u64; Position::LIMIT],
+    rows: &[u64; TABLE],
+    affected: &[u64; AFFECTED],
     x: usize,
 ) -> bool
     requires { ⌜ (k < 128) × (x < 128) × (length (now position) ≡ 128) × (length (now places) ≡ 128) × (length (now words) ≡ 128) ⌝ }
@@ -112,7 +119,7 @@ fn remove_entry(
     places: &mut [u8],
     words: &mut [u64],
     replaced: &[u64],
-    rows: &[u64; 2304],
+    rows: &[u64; TABLE],
 ) -> usize
     requires { ⌜ (k < length (now position)) × (k < length (now replaced)) × (getD (now position) k 0 < 128) × (length (now places) ≡ 128) × (length (now words) ≡ 128) ⌝ }
     ensures { λ r. ⌜ (r ≡ getD (now (position .entry)) k 0) × (now (places .exit) ≡ set (now (places .entry)) r 255) × (now (words .exit) ≡ set (now (words .entry)) (writtenWord (now (rows .entry)) r) (getD (now (replaced .entry)) k 0)) ⌝ }
@@ -127,14 +134,14 @@ fn remove_entry(
 // what they wrote, and `replaced` the word that each wrote over. The next candidate is the lowest that is open, and not refused.
 pub fn walk(
     n: usize,
-    position: &mut [u8; 128],
+    position: &mut [u8; Position::LIMIT],
     size: usize,
-    places: &mut [u8; 128],
-    levels: &mut [u64; 774],
-    words: &mut [u64; 128],
-    replaced: &mut [u64; 128],
-    rows: &[u64; 2304],
-    affected: &[u64; 256],
+    places: &mut [u8; Position::LIMIT],
+    levels: &mut [u64; LEVELS],
+    words: &mut [u64; WORDS],
+    replaced: &mut [u64; Position::LIMIT],
+    rows: &[u64; TABLE],
+    affected: &[u64; AFFECTED],
 ) -> WalkAnswer
     requires { ⌜ (n ≤ 128) × (size < n) × Kept n (now rows) (now position) (now places) (now levels) (now words) (now replaced) size × Affecting n (now rows) (now affected) ⌝ }
     requires { ⌜ (length (now position) ≡ 128) × (length (now places) ≡ 128) × (length (now words) ≡ 128) ⌝ }

@@ -20,7 +20,7 @@ pub struct Total {
     pub answer: SearchAnswer,
     pub steps: u64,
     pub length: usize,
-    pub buffer: [u8; 128],
+    pub buffer: [u8; Position::LIMIT],
 }
 
 // Whether a search may go on.
@@ -39,8 +39,9 @@ fn is_unfinished(answer: SearchAnswer) -> bool
 pub fn search_in_calls(bytes: &[u8]) -> Total
     ensures { λ r. ⌜ (totalOf r ≡ callOn (now (bytes .entry)) callLimit notCalled) × (r .length ≤ 128) × (ListN.length (r .buffer) ≡ 128) ⌝ }
 {
-    let mut buffer = [0u8; Position::LIMIT];
-    let mut length: usize = 0;
+    let begin = Position::empty();
+    let mut buffer = begin.entries;
+    let mut length = begin.length;
     let mut steps: u64 = 0;
     let mut calls: u64 = 0;
     while calls < CALL_LIMIT {

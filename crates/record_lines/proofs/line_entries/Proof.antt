@@ -37,16 +37,16 @@ returns c =
       omega (arith, turn .loop .inv .1),
     )
 
-enum-told : tie.Need-enum-told Inv-loop μ-loop
-enum-told c = search needs
+enum-known-asked-2 : tie.Need-enum-known-asked-2 Inv-loop μ-loop
+enum-known-asked-2 c = search needs
 
 with-line-requires : tie.Need-with-line-requires Inv-loop μ-loop
 with-line-requires c κs =
-    let count = c .before .before .before .before .loop .inv .1 in
-    (omega arith, c .before .before .line-question .ensures .ends (c .enum-told .given .1))
+    let count = c .before .before .before .before .before .loop .inv .1 in
+    (omega arith, omega (arith, c .before .before .before .line-question .ensures .ends _ (c .before .asked2 .given .1), c .before .before .before .line-question .ensures .long _ (c .before .asked2 .given .1)))
 
 add-at : tie.Need-add-at Inv-loop μ-loop
-add-at c = omega (arith, c .before .before .before .line-question .ensures .ends (c .before .enum-told .given .1))
+add-at c = omega (arith, c .before .before .before .before .line-question .ensures .ends _ (c .before .before .asked2 .given .1))
 
 add-i : tie.Need-add-i Inv-loop μ-loop
 add-i c = search needs
@@ -56,9 +56,9 @@ loop-less c = search needs
 
 loop-again : tie.Need-loop-again Inv-loop μ-loop
 loop-again c =
-    let turn = c .before .before .before .before .before in
+    let turn = c .before .before .before .before .before .before in
     let more = c .with-line .ensures in (
-      subst (Going (λ done. readLine) _ _ _ _ _) (sym (more .1)) (going-on (turn .loop .inv .0) (c .before .before .before .before .loop-test .taken) (c .before .before .before .line-question .ensures) (c .before .enum-told .given .1)),
+      subst (Going (λ done. readLine) _ _ _ _ _) (sym (more .1)) (going-on (turn .loop .inv .0) (c .before .before .before .before .before .loop-test .taken) (c .before .before .before .before .line-question .ensures) (c .before .before .asked2 .given .1)),
       omega (arith, turn .loop .inv .1, more .0),
     )
 
@@ -76,7 +76,7 @@ line-entries-spec =
     line-question-requires
     enum-known-asked
     returns
-    enum-told
+    enum-known-asked-2
     with-line-requires
     add-at
     add-i

@@ -33,14 +33,14 @@ enum-known-asked c = search needs
 returns : tie.Need-returns Inv-loop μ-loop
 returns c = going-fails (c .before .before .before .before .before .loop .inv .0) (c .before .before .before .before .loop-test .taken) (c .before .before .before .pair-question .ensures) (c .before .asked .given .1)
 
-enum-told : tie.Need-enum-told Inv-loop μ-loop
-enum-told c = search needs
+enum-known-asked-2 : tie.Need-enum-known-asked-2 Inv-loop μ-loop
+enum-known-asked-2 c = search needs
 
 with-pair-requires : tie.Need-with-pair-requires Inv-loop μ-loop
-with-pair-requires c κs = (omega (arith, c .before .before .before .before .loop .inv .1), c .before .before .pair-question .ensures .ends (c .enum-told .given .1))
+with-pair-requires c κs = (omega (arith, c .before .before .before .before .before .loop .inv .1), omega (arith, c .before .before .before .pair-question .ensures .ends _ (c .before .asked2 .given .1), c .before .before .before .pair-question .ensures .long _ (c .before .asked2 .given .1)))
 
 add-at : tie.Need-add-at Inv-loop μ-loop
-add-at c = omega (arith, c .before .before .before .pair-question .ensures .ends (c .before .enum-told .given .1))
+add-at c = omega (arith, c .before .before .before .before .pair-question .ensures .ends _ (c .before .before .asked2 .given .1))
 
 add-i : tie.Need-add-i Inv-loop μ-loop
 add-i c = search needs
@@ -50,10 +50,10 @@ loop-less c = search needs
 
 loop-again : tie.Need-loop-again Inv-loop μ-loop
 loop-again c =
-    let inv = c .before .before .before .before .before .loop .inv in
+    let inv = c .before .before .before .before .before .before .loop .inv in
     let more = c .with-pair .ensures in (
-      subst (Going (readPair (instructionsOf (c .before .before .before .before .before .before .before .before .args .is))) _ _ _ _ _) (sym (more .1))
-          (going-on (inv .0) (c .before .before .before .before .loop-test .taken) (c .before .before .before .pair-question .ensures) (c .before .enum-told .given .1)),
+      subst (Going (readPair (instructionsOf (c .before .before .before .before .before .before .before .before .before .args .is))) _ _ _ _ _) (sym (more .1))
+          (going-on (inv .0) (c .before .before .before .before .before .loop-test .taken) (c .before .before .before .before .pair-question .ensures) (c .before .before .asked2 .given .1)),
       omega (arith, inv .1, more .0),
     )
 
@@ -71,7 +71,7 @@ pair-entries-spec =
     pair-question-requires
     enum-known-asked
     returns
-    enum-told
+    enum-known-asked-2
     with-pair-requires
     add-at
     add-i

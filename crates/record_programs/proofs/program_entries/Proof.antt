@@ -37,19 +37,19 @@ returns c =
       counts = inv .1;
     }
 
-enum-told : tie.Need-enum-told Inv-loop μ-loop
-enum-told c = search needs
+enum-known-asked-2 : tie.Need-enum-known-asked-2 Inv-loop μ-loop
+enum-known-asked-2 c = search needs
 
 with-instruction-requires : tie.Need-with-instruction-requires Inv-loop μ-loop
 with-instruction-requires c κs =
-    let a = c .before .before .before .before .before .before .args in
-    let inv = c .before .before .before .before .loop .inv in
-    (omega (arith, inv .2), c .before .before .instruction-question .ensures (a .processors) (a .p) (instructionsOf (c .before .before .before .before .loop .instructions)) .ends (c .enum-told .given .1), omega arith, inv .1 .bounded, inv .1 .counted)
+    let a = c .before .before .before .before .before .before .before .args in
+    let inv = c .before .before .before .before .before .loop .inv in
+    (omega (arith, inv .2), omega (arith, c .before .before .before .instruction-question .ensures (a .processors) (a .p) (instructionsOf (c .before .before .before .before .before .loop .instructions)) .ends _ (c .before .asked2 .given .1), c .before .before .before .instruction-question .ensures (a .processors) (a .p) (instructionsOf (c .before .before .before .before .before .loop .instructions)) .long _ (c .before .asked2 .given .1)), omega arith, inv .1 .bounded, inv .1 .counted)
 
 add-at : tie.Need-add-at Inv-loop μ-loop
 add-at c =
-    let a = c .before .before .before .before .before .before .before .args in
-    omega (arith, c .before .before .before .instruction-question .ensures (a .processors) (a .p) (instructionsOf (c .before .before .before .before .before .loop .instructions)) .ends (c .before .enum-told .given .1))
+    let a = c .before .before .before .before .before .before .before .before .args in
+    omega (arith, c .before .before .before .before .instruction-question .ensures (a .processors) (a .p) (instructionsOf (c .before .before .before .before .before .before .loop .instructions)) .ends _ (c .before .before .asked2 .given .1))
 
 add-i : tie.Need-add-i Inv-loop μ-loop
 add-i c = search needs
@@ -59,12 +59,12 @@ loop-less c = search needs
 
 loop-again : tie.Need-loop-again Inv-loop μ-loop
 loop-again c =
-    let a = c .before .before .before .before .before .before .before .args in
-    let inv = c .before .before .before .before .before .loop .inv in
+    let a = c .before .before .before .before .before .before .before .before .args in
+    let inv = c .before .before .before .before .before .before .loop .inv in
     let more = c .with-instruction .ensures in (
       subst (Going (readInstruction (a .processors) (a .lines) (a .p)) _ _ _ _ _) (sym (more .holds))
-          (going-on (inv .0) (c .before .before .before .before .loop-test .taken)
-          (c .before .before .before .instruction-question .ensures (a .processors) (a .p) _) (c .before .enum-told .given .1)),
+          (going-on (inv .0) (c .before .before .before .before .before .loop-test .taken)
+          (c .before .before .before .before .instruction-question .ensures (a .processors) (a .p) _) (c .before .before .asked2 .given .1)),
       record { few = omega (arith, more .one, inv .2); counted = more .counted; bounded = more .bounded },
       omega (arith, more .one, inv .2),
     )
@@ -82,7 +82,7 @@ program-entries-spec =
     instruction-question-requires
     enum-known-asked
     returns
-    enum-told
+    enum-known-asked-2
     with-instruction-requires
     add-at
     add-i
