@@ -37,7 +37,7 @@ fn judge_order(x: Execution, order: &[u8]) -> Judgement
     let marks = all_marks(x);
     let lowest = lowest_broken(x, t, &marks, &places);
     match lowest {
-        Lowest::Kept => Judgement::Legal,
+        Lowest::Unbroken => Judgement::Legal,
         Lowest::Broken(rule) => Judgement::Breaks(rule),
     }
 }

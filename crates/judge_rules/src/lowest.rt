@@ -18,7 +18,7 @@ use relation_links::operations::Operations;
 
 // No rule, or the lowest, by its number.
 pub enum Lowest {
-    Kept,
+    Unbroken,
     Broken(u8),
 }
 
@@ -68,5 +68,5 @@ pub fn lowest_broken(
             return Lowest::Broken(rule);
         }
     }
-    Lowest::Kept
+    Lowest::Unbroken
 }

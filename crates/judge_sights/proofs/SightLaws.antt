@@ -16,7 +16,7 @@ use Rattle.model.specs.Rules.{accesses}
 use Rattle.record_decoded.specs.declared.types.Lines.{Lines}
 use Rattle.record_decoded.specs.declared.types.Instructions.{Instructions}
 use Rattle.record_decoded.specs.declared.types.Execution.{Execution}
-use Rattle.record_decoded.specs.Decoded.{eight, lineAt, linesOf, instructionAt}
+use Rattle.record_decoded.specs.Decoded.{eight, decodedLine, linesOf, instructionAt}
 use Rattle.record_decoded.proofs.Arrays.{lines-length}
 use Rattle.relation_places.specs.Places.{placed}
 use Rattle.judge_sights.specs.declared.Latest.{Latest}
@@ -31,9 +31,9 @@ module _ (x : Lines) (address : ℕ) where
       (List·getD-eq-default (linesOf x) noLine {n = address / 8} (omega (arith, lines-length x))))
 
   pub initial-there : address / 8 < x .count → getD (x .initial) address 0 ≡ initialOf x address
-  unfolding initialOf linesOf lineAt eight
+  unfolding initialOf linesOf decodedLine eight
   initial-there h =
-      sym (ap (λ (l : Line). getD (l .initial) (address % 8) 0) (getD-below (lineAt x) noLine (x .count) (address / 8) h)
+      sym (ap (λ (l : Line). getD (l .initial) (address % 8) 0) (getD-below (decodedLine x) noLine (x .count) (address / 8) h)
       ∙ getD-take 8 (drop (8 * (address / 8)) (x .initial)) (address % 8) 0 (omega arith)
       ∙ getD-drop (8 * (address / 8)) (x .initial) (address % 8) 0
       ∙ ap (λ (k : ℕ). getD (x .initial) k 0) (let z : 8 * (address / 8) + address % 8 ≡ address = omega arith in z))

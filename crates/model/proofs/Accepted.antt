@@ -1,4 +1,4 @@
--- What holds of an execution whose record is accepted: instructions and operations are numbered one after the other, and each instruction passed its questions.
+-- Every accepted record is `Accepted`; the steps of a walk that found something.
 use Prim.Native.Nat.{ℕ, zero, suc, _+_, _≤_, _<_}
 use native.Mathlib.Omega.{arith}
 use mathlib.Core.Path.{_≡_, refl, sym, ap, _∙_, subst}

@@ -1,7 +1,7 @@
 -- A prefix breaks no rule exactly when it is consistent; so an order of all operations is judged legal exactly when it is consistent.
 use Prim.Native.Nat.{ℕ, suc}
 use native.Mathlib.Omega.{arith}
-use mathlib.Core.Path.{_≡_, refl, ap, _∙_}
+use mathlib.Core.Path.{_≡_, refl, sym, ap, _∙_}
 use mathlib.Core.Bool.{Bool, true, false, not, cond, _||_}
 use mathlib.Core.List.{List, [], _∷_, List·Memᴰ}
 use mathlib.Core.Logic.{_↔_}
@@ -17,6 +17,7 @@ use Rattle.model.specs.Rules.{Claim, broken, lowestFrom, lowestBroken, r
 use Rattle.model.specs.Search.{prefixes}
 use Rattle.model.specs.Claims.{Ascending}
 use Rattle.model.specs.Calls.{Judgement, Answer, says, refuses, Legal, andThen, asks, answerOf, readAll, legal, judgementOf, judgeOrder, judgeCall}
+use Rattle.model.proofs.Asking.{after-says, asked-yes}
 use Rattle.model.proofs.Consistent.{keeps-shorter, keeps-empty}
 use Rattle.model.proofs.Prefixes.{prefixes-ascend, prefixes-are}
 
@@ -31,6 +32,11 @@ lowest-keeps k (r ∷ rs) xs = go (any (broken xs) r) (lowest-keeps (suc k) rs x
     go true ih = (λ h. cc, λ h. cc)
     go false ih = ih
 
+-- what is found is said
+found-says : (bytes : List ℕ) (e : Execution) (rest : List ℕ) → readRecord bytes ≡ found e rest → readAll bytes ≡ says e
+unfolding readAll answerOf
+found-says bytes e rest h = rw h
+
 -- a refusal is not 'legal'
 refusal : {C : Type 0} {q : ℕ} → _≡_ {A = Answer Judgement} (refuses q) (says legal) → C
 refusal h = let z : _≡_ {A = ℕ} 0 1 = cc in absurd (omega arith)
@@ -39,8 +45,9 @@ module _ (bytes : List ℕ) (e : Execution) (rest : List ℕ) (read : readRecord
   -- the judge of an offered order that passes questions 16 and 17
   pub judge-order : (order : List ℕ) → length order ≡ operations e → distinct (operations e) [] order ≡ true
       → judgeCall bytes order ≡ says (judgementOf (lowestBroken e order))
-  unfolding judgeCall readAll judgeOrder answerOf andThen asks
-  judge-order order l d = rw (read, eq-eqb (length order) (operations e) l, d)
+  unfolding judgeCall judgeOrder
+  judge-order order l d =
+      sym (asked-yes 17 (says (judgementOf (lowestBroken e order))) d ∙ asked-yes 16 _ (eq-eqb (length order) (operations e) l) ∙ after-says (λ k. judgeOrder k order) (found-says bytes e rest read))
 
   -- an order that the judge calls legal passes questions 16 and 17
   pub legal-passes : (order : List ℕ) → Legal bytes order → (length order ≡ operations e) × (distinct (operations e) [] order ≡ true)

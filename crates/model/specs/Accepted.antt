@@ -1,4 +1,4 @@
--- What holds of an execution whose record is accepted, for contracts that ask for one: instructions and operations are numbered one after the other, and each instruction passed its questions.
+-- What holds of an execution whose record is accepted, for contracts that ask for one: instructions and operations are numbered one after the other, and each instruction passed questions 7 and 8.
 use Prim.Native.Nat.{ℕ, suc, _+_, _≤_, _<_}
 use mathlib.Core.Path.{_≡_}
 use mathlib.Core.Bool.{true}
@@ -12,7 +12,7 @@ abbrev pub Consecutive : ℕ → ℕ → ℕ → List Instruction → Type 0
 Consecutive p at n [] = Unit {0}
 Consecutive p at n (i ∷ is) = (i .first ≡ at) × (i .number ≡ n) × Consecutive p (at + length (roles p (i .kind))) (suc n) is
 
--- an instruction that passed its questions
+-- an instruction that passed questions 7 and 8
 pub record Sound (processors lines : ℕ) (i : Instruction) : Type 0 where
   pub own : i .processor < processors
   pub size-passed : question7 (i .kind) (i .size) ≡ true

@@ -18,7 +18,7 @@ module _ (n : ℕ) (links : List Link) where
       let passed = a ∷ reachedBy k a in
       keep (λ b. any (λ c. leads c b) passed) (below n)
 
-  -- mark (a, b): one or more links lead from a to b. (Of a shortest way the links are at most n.)
+  -- mark (a, b): one or more links lead from a to b. (Of a shortest path the links are at most n.)
   unfoldable pub chainMark : ℕ → ℕ → ℕ
   chainMark a b = cond (member (reachedBy n a) b) 1 0
 

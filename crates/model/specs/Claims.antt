@@ -1,4 +1,4 @@
--- What document 01 says of its own definitions, as claims that a reader may quote.
+-- Claims about the definitions that a reader may quote.
 use Prim.Native.Nat.{ℕ}
 use mathlib.Core.Path.{_≡_}
 use mathlib.Core.Bool.{true, _&&_, _||_}
@@ -13,14 +13,14 @@ use Rattle.model.specs.ProgramOrder.{marks}
 use Rattle.model.specs.Search.{prefixes}
 use Rattle.model.specs.Calls.{says, readAll, Legal}
 
--- 'A full beginning, of N, is clean exactly when legal.'
+-- Document 01: 'A full beginning, of N, is clean exactly when legal.'
 abbrev pub FullIsLegal : Type 0
 FullIsLegal =
     (bytes : List ℕ) (e : Execution) → readAll bytes ≡ says e
     → (order : List ℕ) → length order ≡ operations e → distinct (operations e) [] order ≡ true
     → Legal bytes order ↔ (consistent e order ≡ true)
 
--- what a prefix settles stays settled: with a prefix each shorter one is consistent
+-- what a prefix settles stays settled: where a prefix is consistent, each shorter one is
 abbrev pub PrefixIsConsistent : Type 0
 PrefixIsConsistent = (e : Execution) (xs ys : List ℕ) → consistent e (xs ++ ys) ≡ true → consistent e xs ≡ true
 

@@ -7,11 +7,11 @@ use Rattle.base.proofs.Lists.{length-count, getD-below}
 use Rattle.model.specs.Execution as model
 use Rattle.record_decoded.specs.declared.types.Lines.{Lines}
 use Rattle.record_decoded.specs.declared.types.Instructions.{Instructions}
-use Rattle.record_decoded.specs.Decoded.{lineAt, linesOf, instructionAt, instructionsOf}
+use Rattle.record_decoded.specs.Decoded.{decodedLine, linesOf, instructionAt, instructionsOf}
 
 pub lines-length : (x : Lines) → length (linesOf x) ≡ x .count
 unfolding linesOf below
-lines-length x = length-map (below (x .count)) (lineAt x) ∙ length-count 0 (x .count)
+lines-length x = length-map (below (x .count)) (decodedLine x) ∙ length-count 0 (x .count)
 
 pub instructions-length : (x : Instructions) → length (instructionsOf x) ≡ x .count
 unfolding instructionsOf below

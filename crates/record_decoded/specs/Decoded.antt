@@ -16,11 +16,11 @@ unfoldable pub eight : List ℕ → ℕ → List ℕ
 eight l k = take 8 (drop (8 * k) l)
 
 -- line k
-unfoldable pub lineAt : Lines → ℕ → model.Line
-lineAt x k = record { attribute = attributeOf (getD (x .attributes) k 0); initial = eight (x .initial) k }
+unfoldable pub decodedLine : Lines → ℕ → model.Line
+decodedLine x k = record { attribute = attributeOf (getD (x .attributes) k 0); initial = eight (x .initial) k }
 
 unfoldable pub linesOf : Lines → List model.Line
-linesOf x = map (lineAt x) (below (x .count))
+linesOf x = map (decodedLine x) (below (x .count))
 
 -- instruction i
 unfoldable pub instructionAt : Instructions → ℕ → model.Instruction

@@ -15,7 +15,7 @@ use Rattle.base.proofs.Lists.{map-below-more}
 use Rattle.model.specs.Execution.{Line, attributeOf}
 use Rattle.model.specs.Questions.{lineOf, readLine, readLines, many, no-to, next, ask, question3, question4}
 use Rattle.record_decoded.specs.declared.types.Lines.{Lines}
-use Rattle.record_decoded.specs.Decoded.{eight, lineAt, linesOf}
+use Rattle.record_decoded.specs.Decoded.{eight, decodedLine, linesOf}
 use Rattle.record_decoded.specs.declared.types.Asked.the-variants.{Pass, Fail}
 use Rattle.record_decoded.specs.Steps.{Answered}
 use Rattle.record_decoded.proofs.Items.{item-short, item-there, item-first, byte-short, byte-there, fails, passes}
@@ -26,8 +26,8 @@ module _ (x r : Lines) (part : List ℕ) (at : ℕ) (few : x .count < 8) (room :
     (counted : r .count ≡ x .count + 1)
     (attributes : r .attributes ≡ set (x .attributes) (x .count) (getD part at 0))
     (initial : r .initial ≡ paste (x .initial) (8 * x .count) (drop (at + 1) part) 8) where
-  line-new : lineAt r (x .count) ≡ lineOf (take 9 (drop at part))
-  unfolding lineAt lineOf
+  line-new : decodedLine r (x .count) ≡ lineOf (take 9 (drop at part))
+  unfolding decodedLine lineOf
   line-new = λ i. record {
     attribute = attributeOf (same i);
     initial = bytes i;
@@ -45,8 +45,8 @@ module _ (x r : Lines) (part : List ℕ) (at : ℕ) (few : x .count < 8) (room :
           ∙ eight-new (x .initial) (x .count) (drop (at + 1) part) (omega arith) (omega (arith, length-drop (at + 1) part))
           ∙ sym (drop-take 1 8 (drop at part) ∙ ap (take 8) (drop-drop 1 at part))
 
-  line-old : (j : ℕ) → j < x .count → lineAt r j ≡ lineAt x j
-  unfolding lineAt
+  line-old : (j : ℕ) → j < x .count → decodedLine r j ≡ decodedLine x j
+  unfolding decodedLine
   line-old j h = λ i. record {
     attribute = attributeOf (same i);
     initial = bytes i;
@@ -63,8 +63,8 @@ module _ (x r : Lines) (part : List ℕ) (at : ℕ) (few : x .count < 8) (room :
   pub line-more : linesOf r ≡ linesOf x ++ (lineOf (take 9 (drop at part)) ∷ [])
   unfolding linesOf
   line-more =
-      ap (λ (k : ℕ). map (lineAt r) (below k)) (counted ∙ add-one (x .count))
-      ∙ map-below-more (lineAt r) (lineAt x) (x .count) line-old
+      ap (λ (k : ℕ). map (decodedLine r) (below k)) (counted ∙ add-one (x .count))
+      ∙ map-below-more (decodedLine r) (decodedLine x) (x .count) line-old
       ∙ ap (λ (l : Line). linesOf x ++ (l ∷ [])) line-new
 
 -- the questions of a line

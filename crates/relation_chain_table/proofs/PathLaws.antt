@@ -168,7 +168,7 @@ module _ (r : ℕ → ℕ → Bool) where
   closed-has zero a b h = h
   closed-has (suc k) a b h = closed-more k a b (closed-has k a b h)
 
-  -- two ways that meet at a number below k are one way
+  -- two paths that meet at a number below k are one path
   closed-joins : (k a b c : ℕ) → c < k → closedBy k r a c ≡ true → closedBy k r c b ≡ true → closedBy k r a b ≡ true
   closed-joins zero a b c l h g = absurd (omega arith)
   closed-joins (suc k) a b c l h g = go (closed-joins k) (decLt c k) (closed-cases k a c h) (closed-cases k c b g)

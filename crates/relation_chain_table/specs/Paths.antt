@@ -1,4 +1,4 @@
--- Paths of links by what they are, with no algorithm; what it is for the marks of a chain table and the cells of a square to be the paths.
+-- Paths of links by what they are, with no algorithm; what it is for marks and cells to be the paths, and the claim that those of the call are.
 use Prim.Native.Nat.{ℕ, _+_, _*_, _<_, _≤_}
 use mathlib.Core.Path.{_≡_}
 use mathlib.Core.List.{List, List·Memᴰ}

@@ -20,7 +20,7 @@ use Rattle.model.proofs.ProgramOrder.{kinds, listed}
 use Rattle.model.specs.Rules.{addresses, accesses, overlap}
 use Rattle.record_decoded.specs.declared.types.Lines.{Lines}
 use Rattle.record_decoded.specs.declared.types.Pairs.{Pairs}
-use Rattle.record_decoded.specs.Decoded.{lineAt, linesOf, pairAt, pairsOf}
+use Rattle.record_decoded.specs.Decoded.{decodedLine, linesOf, pairAt, pairsOf}
 use Rattle.record_decoded.proofs.Arrays.{lines-length}
 use Rattle.relation_marks.specs.Marks.{programMarks, sharesByte, givenPair, hasMark}
 
@@ -75,8 +75,8 @@ pair-by-index ps m n = sym (any-numbered (λ p. eqb (p .0) m && eqb (p .1) n) (p
 
 -- the attribute of a line that is there, and of one that is not
 pub attribute-there : (ls : Lines) (k : ℕ) → k < ls .count → attributeOf (getD (ls .attributes) k 0) ≡ getD (linesOf ls) k noLine .attribute
-unfolding lineAt linesOf
-attribute-there ls k h = sym (ap (λ (l : Line). l .attribute) (getD-below (lineAt ls) noLine (ls .count) k h))
+unfolding decodedLine linesOf
+attribute-there ls k h = sym (ap (λ (l : Line). l .attribute) (getD-below (decodedLine ls) noLine (ls .count) k h))
 
 pub attribute-past : (ls : Lines) (k : ℕ) → ls .count ≤ k → WC ≡ getD (linesOf ls) k noLine .attribute
 attribute-past ls k h = sym (ap (λ (l : Line). l .attribute) (List·getD-eq-default (linesOf ls) noLine {n = k} (omega (arith, lines-length ls))))

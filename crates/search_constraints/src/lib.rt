@@ -231,9 +231,9 @@ pub fn bypasses_at<'a>(
     let line = addresses[w] / 8;
     for v in 0..n {
         let processor = processors[v];
-        let beside = stores_to_line(kinds[v], processor, addresses[v], own, line);
+        let wanted = stores_to_line(kinds[v], processor, addresses[v], own, line);
         let number = 1 + wide16(firsts[v]) + wide(processor);
-        set = insert_if(set, number, beside);
+        set = insert_if(set, number, wanted);
     }
     set
 }

@@ -54,7 +54,7 @@ fn with_locals(set: Set, rows: &[u64; TABLE], stores: Set) -> Set
 }
 
 // Whether operation a writes a word that the R y reads.
-fn writes_to(rows: &[u64; TABLE], a: usize, y: usize) -> bool
+fn writes_word_of(rows: &[u64; TABLE], a: usize, y: usize) -> bool
     requires { ⌜ (a < 128) × (y < 128) ⌝ }
     ensures { λ r. ⌜ r ≡ writesWordOf (now (rows .entry)) a y ⌝ }
 {
@@ -72,7 +72,7 @@ fn with_writers(set: Set, n: usize, rows: &[u64; TABLE], y: usize) -> Set
 {
     let mut all = set;
     for a in 0..n {
-        let writes = writes_to(rows, a, y);
+        let writes = writes_word_of(rows, a, y);
         all = insert_if(all, a, writes);
     }
     all
@@ -144,12 +144,12 @@ pub fn enabled_after(
     requires { ⌜ x < 128 ⌝ }
     ensures { λ r. ⌜ ((y : ℕ) → y < 128 → holds (r .lo) (r .hi) y ≡ enabledAfter (now (rows .entry)) (now (affected .entry)) (now (words .entry)) (before .lo) (before .hi) (stand .lo) (stand .hi) x y) ⌝ }
 {
-    let touched = at(affected, x);
-    let kept = minus(minus(before, touched), stand);
-    if subset(touched, stand) {
+    let changed = at(affected, x);
+    let kept = minus(minus(before, changed), stand);
+    if subset(changed, stand) {
         return kept;
     }
-    let again = minus(touched, stand);
+    let again = minus(changed, stand);
     let mut all = kept;
     let mut y = first(again, 0);
     while y < 128 {

@@ -20,7 +20,7 @@ use Rattle.model.specs.Questions.{question7, question8}
 use Rattle.model.specs.Rules.{accesses, byteWritten}
 use Rattle.model.specs.Accepted.{Accepted, Sound}
 use Rattle.record_decoded.specs.declared.types.Execution.{Execution}
-use Rattle.record_decoded.specs.Decoded.{eight, lineAt, linesOf, instructionAt, executionOf}
+use Rattle.record_decoded.specs.Decoded.{eight, decodedLine, linesOf, instructionAt, executionOf}
 use Rattle.record_decoded.proofs.Arrays.{lines-length}
 use Rattle.search_admit.specs.Rows.{covers, dataBit, Bytes}
 use Rattle.search_reduction.proofs.Ownership.{each-in}
@@ -145,9 +145,9 @@ module _ (x : Execution) (accepted : Accepted (executionOf x)) where
 
   -- the initial byte of an address
   pub initial-at : (a : ℕ) → a < 8 * length (e .lines) → initialByte e a ≡ getD (x .lines .initial) a 0
-  unfolding initialByte model.lineAt executionOf linesOf lineAt eight
+  unfolding initialByte model.lineAt executionOf linesOf decodedLine eight
   initial-at a h =
-      ap (λ (l : Line). getD (l .initial) (a % 8) 0) (getD-below (lineAt (x .lines)) noLine (x .lines .count) (a / 8) (omega (arith, h, lines-length (x .lines))))
+      ap (λ (l : Line). getD (l .initial) (a % 8) 0) (getD-below (decodedLine (x .lines)) noLine (x .lines .count) (a / 8) (omega (arith, h, lines-length (x .lines))))
       ∙ getD-take 8 (drop (8 * (a / 8)) (x .lines .initial)) (a % 8) 0 (omega arith)
       ∙ getD-drop (8 * (a / 8)) (x .lines .initial) (a % 8) 0
       ∙ ap (λ (j : ℕ). getD (x .lines .initial) j 0) (omega arith)

@@ -1,4 +1,4 @@
--- Laws of sets of two words. Assumes nothing.
+-- Laws of sets of two words.
 use mathlib.Core.Path.{_≡_, refl, sym, ap, ap₂, _∙_}
 use mathlib.Core.Bool.{Bool, true, false, not, _||_, _&&_, false≢true, or-false, cond}
 use mathlib.Core.Logic.{_⊎_, inl, inr, ⊎-elim}
@@ -14,7 +14,7 @@ use Rattle.base.specs.Below.{allBelow}
 use Rattle.base.specs.Bits.{bit}
 use Rattle.base.proofs.Bools.{agree}
 use Rattle.base.proofs.Tests.{all-at, all-below}
-use Rattle.search_sets.specs.Set.{holds, Lowest}
+use Rattle.search_sets.specs.Set.{holds, LowestMember}
 use Rattle.search_sets.proofs.Bit.{has-or, has-and, has-pow}
 
 pub lt-or-le : (a b : ℕ) → (a < b) ⊎ (b ≤ a)
@@ -104,12 +104,12 @@ has-shr m f i = ap (λ (x : ℕ). eqb (x % 2) 1) (shr-shr m f i)
 has-zero : (m : ℕ) → bit m 0 ≡ eqb (m % 2) 1
 has-zero m = ap (λ (x : ℕ). eqb (x % 2) 1) (div-one m)
 
-pub tz-lowest : (d m : ℕ) → Lowest (bit m) 0 d (trailingZeros d m)
+pub tz-lowest : (d m : ℕ) → LowestMember (bit m) 0 d (trailingZeros d m)
 unfolding trailingZeros
 tz-lowest zero m = record { within = omega arith; onward = omega arith; none = λ i a b. absurd (omega arith); here = λ h. absurd (omega arith) }
 tz-lowest (suc d) m = go (m % 2) refl (tz-lowest d (m / 2))
   where
-    go : (r : ℕ) → m % 2 ≡ r → Lowest (bit (m / 2)) 0 d (trailingZeros d (m / 2)) → Lowest (bit m) 0 (suc d) (under r (trailingZeros d (m / 2)))
+    go : (r : ℕ) → m % 2 ≡ r → LowestMember (bit (m / 2)) 0 d (trailingZeros d (m / 2)) → LowestMember (bit m) 0 (suc d) (under r (trailingZeros d (m / 2)))
     go zero e w =
         record {
           within = omega arith;
@@ -185,7 +185,7 @@ module _ (m f : ℕ) (small : m < 2 ^ 64) where
       ap (bit m) (sym d) ∙ sym (has-shr m f (i - f)) ∙ tz-lowest 64 rest .none (i - f) (omega arith) (omega arith)
 
 module _ (lo hi f : ℕ) where
-  pub first-low : lo < 2 ^ 64 → (lo / 2 ^ f ≡ 0 → ⊥) → Lowest (holds lo hi) f 128 (f + trailingZeros 64 (lo / 2 ^ f))
+  pub first-low : lo < 2 ^ 64 → (lo / 2 ^ f ≡ 0 → ⊥) → LowestMember (holds lo hi) f 128 (f + trailingZeros 64 (lo / 2 ^ f))
   first-low s h =
       let l = word-within lo f s h in
       record {
@@ -195,7 +195,7 @@ module _ (lo hi f : ℕ) where
         here = λ b. holds-low lo hi _ l ∙ word-here lo f s h;
       }
 
-  pub first-next : lo < 2 ^ 64 → f < 64 → lo / 2 ^ f ≡ 0 → Lowest (holds lo hi) f 128 (64 + trailingZeros 64 hi)
+  pub first-next : lo < 2 ^ 64 → f < 64 → lo / 2 ^ f ≡ 0 → LowestMember (holds lo hi) f 128 (64 + trailingZeros 64 hi)
   first-next s k e =
       let w = tz-lowest 64 hi in
       let d : 64 + trailingZeros 64 hi - 64 ≡ trailingZeros 64 hi = omega arith in
@@ -208,7 +208,7 @@ module _ (lo hi f : ℕ) where
         here = λ b. holds-high lo hi _ (omega arith) ∙ ap (bit hi) d ∙ w .here (omega arith);
       }
 
-  pub first-high : hi < 2 ^ 64 → 64 ≤ f → (hi / 2 ^ (f - 64) ≡ 0 → ⊥) → Lowest (holds lo hi) f 128 (f + trailingZeros 64 (hi / 2 ^ (f - 64)))
+  pub first-high : hi < 2 ^ 64 → 64 ≤ f → (hi / 2 ^ (f - 64) ≡ 0 → ⊥) → LowestMember (holds lo hi) f 128 (f + trailingZeros 64 (hi / 2 ^ (f - 64)))
   first-high s k h =
       let t = trailingZeros 64 (hi / 2 ^ (f - 64)) in
       let l = word-within hi (f - 64) s h in
@@ -220,7 +220,7 @@ module _ (lo hi f : ℕ) where
         here = λ b. holds-high lo hi _ (omega arith) ∙ ap (bit hi) d ∙ word-here hi (f - 64) s h;
       }
 
-  pub first-none : hi < 2 ^ 64 → 64 ≤ f → f ≤ 128 → hi / 2 ^ (f - 64) ≡ 0 → Lowest (holds lo hi) f 128 128
+  pub first-none : hi < 2 ^ 64 → 64 ≤ f → f ≤ 128 → hi / 2 ^ (f - 64) ≡ 0 → LowestMember (holds lo hi) f 128 128
   first-none s k l e =
       record {
         within = omega arith;
@@ -229,7 +229,7 @@ module _ (lo hi f : ℕ) where
         here = λ b. absurd (omega arith);
       }
 
-pub first-past : (p : ℕ → Bool) (f : ℕ) → f ≤ 128 → 128 ≤ f → Lowest p f 128 128
+pub first-past : (p : ℕ → Bool) (f : ℕ) → f ≤ 128 → 128 ≤ f → LowestMember p f 128 128
 first-past p f h l = record { within = omega arith; onward = h; none = λ i a b. absurd (omega arith); here = λ b. absurd (omega arith) }
 
 -- subsets

@@ -12,7 +12,7 @@ use Rattle.base.specs.Below.{anyBelow}
 use Rattle.base.specs.Bits.{bit}
 use Rattle.base.proofs.Bools.{agree, and-parts, and-both}
 use Rattle.base.proofs.Tests.{any-passes, some-at}
-use Rattle.search_sets.specs.Set.{holds, Lowest}
+use Rattle.search_sets.specs.Set.{holds, LowestMember}
 use Rattle.search_sets.proofs.Laws.{zero-has}
 
 -- the empty set
@@ -49,17 +49,17 @@ pub record Over (lo hi m : ℕ) : Type 0 where
   pub within : m ≤ 128
   pub member : m < 128 → holds lo hi m ≡ true
 
-pub over : (lo hi f : ℕ) {m : ℕ} → Lowest (holds lo hi) f 128 m → Over lo hi m
+pub over : (lo hi f : ℕ) {m : ℕ} → LowestMember (holds lo hi) f 128 m → Over lo hi m
 over lo hi f l = record { within = l .within; member = l .here }
 
 module _ (lo hi : ℕ) (p : ℕ → Bool) where
   -- the members below the first
-  pub over-starts : {m : ℕ} → Lowest (holds lo hi) 0 128 m → anyBelow m (λ i. holds lo hi i && p i) ≡ false
+  pub over-starts : {m : ℕ} → LowestMember (holds lo hi) 0 128 m → anyBelow m (λ i. holds lo hi i && p i) ≡ false
   unfolding anyBelow
   over-starts {m} l = any-skips (λ i. holds lo hi i && p i) 0 m (omega arith) (λ i f g. ap (λ (b : Bool). b && p i) (l .none i f g))
 
   -- the members below the next, m seen too
-  pub over-next : {m m' : ℕ} → Over lo hi m → m < 128 → Lowest (holds lo hi) (m + 1) 128 m'
+  pub over-next : {m m' : ℕ} → Over lo hi m → m < 128 → LowestMember (holds lo hi) (m + 1) 128 m'
       → anyBelow m' (λ i. holds lo hi i && p i) ≡ (anyBelow m (λ i. holds lo hi i && p i) || p m)
   unfolding anyBelow
   over-next {m} {m'} o l low =

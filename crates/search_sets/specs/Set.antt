@@ -12,7 +12,7 @@ unfoldable pub holds : ℕ → ℕ → ℕ → Bool
 holds lo hi i = cond (ltb i 64) (bit lo i) (bit hi (i - 64))
 
 -- r is the lowest number from `from` on that passes, or `to` where none below `to` does
-pub record Lowest (p : ℕ → Bool) (from to r : ℕ) : Type 0 where
+pub record LowestMember (p : ℕ → Bool) (from to r : ℕ) : Type 0 where
   pub within : r ≤ to
   pub onward : from ≤ r
   pub none : (i : ℕ) → from ≤ i → i < r → p i ≡ false

@@ -5,7 +5,7 @@ ghost use Prim.Native.Nat.{ℕ, _+_, _*_, _<_, _≤_};
 ghost use lib.ListN.{length, getD, set};
 ghost use lib.Dec.{eqb};
 ghost use Rattle.base.specs.Below.{allBelow};
-ghost use Rattle.search_sets.specs.Set.{holds, Lowest};
+ghost use Rattle.search_sets.specs.Set.{holds, LowestMember};
 
 pub struct Set {
     pub lo: u64,
@@ -91,7 +91,7 @@ pub fn subset(a: Set, b: Set) -> bool
 // The lowest member from `from` on, or 128.
 pub fn first(s: Set, from: usize) -> usize
     requires { ⌜ from ≤ 128 ⌝ }
-    ensures { λ r. ⌜ Lowest (holds (s .lo) (s .hi)) from 128 r ⌝ }
+    ensures { λ r. ⌜ LowestMember (holds (s .lo) (s .hi)) from 128 r ⌝ }
 {
     if from < 64 {
         let w = s.lo >> from;

@@ -1,4 +1,4 @@
--- The point of the walk's search, and how a turn moves it.
+-- The point of the walk's search, and what a turn makes of it.
 use Prim.Native.Nat.{ℕ, zero, suc, _+_, _*_, _-_, _≤_, _<_}
 use native.Mathlib.Omega.{arith}
 use native.Mathlib.Nat.{mul-le-mul, mul-le-mul-right, eq-or-lt-of-le}

@@ -1,7 +1,7 @@
 -- Call after call, while the search is unfinished.
 use Prim.Native.Nat.{ℕ, zero, suc, _+_, _*_, _-_, _^_, _≤_, _<_}
 use native.Mathlib.Omega.{arith}
-use mathlib.Core.Path.{_≡_, refl, sym, ap, _∙_}
+use mathlib.Core.Path.{_≡_, refl, sym, ap, _∙_, subst}
 use mathlib.Core.Bool.{Bool, true, false, cond, false≢true}
 use mathlib.Core.List.{List}
 use lib.ListN.{length, drop, replicate, length-append}
@@ -44,8 +44,11 @@ pub record Calling (bytes : List ℕ) (made steps size : ℕ) (buffer : List ℕ
   pub long : length buffer ≡ 128
   pub decides : callOn bytes callLimit notCalled ≡ callOn bytes (100 - made) (total (says unfinished) steps size buffer)
 
-pub calls-start : {bytes : List ℕ} → Calling bytes 0 0 0 (replicate 128 0)
-calls-start {bytes} = record { within = omega arith; few = omega arith; short = omega arith; long = refl; decides = refl }
+pub calls-start : {bytes : List ℕ} {size : ℕ} {buffer : List ℕ} → size ≡ 0 → buffer ≡ replicate 128 0 → Calling bytes 0 0 size buffer
+calls-start {bytes} {size} {buffer} h e =
+    subst (λ (l : ℕ). Calling bytes 0 0 l buffer) (sym h)
+    (subst (λ (b : List ℕ). Calling bytes 0 0 0 b) (sym e)
+    (record { within = omega arith; few = omega arith; short = omega arith; long = refl; decides = refl }))
 
 module _ {bytes : List ℕ} {made steps size : ℕ} {buffer : List ℕ} (inv : Calling bytes made steps size buffer)
     (r : SearchReply) {left : List ℕ} (same : replyOf r left ≡ searchCall bytes buffer size callAllowance) (kept : length left ≡ length buffer) where

@@ -18,8 +18,8 @@ loop-holds : tie.Need-loop-holds Inv-loop μ-loop
 loop-holds c =
     (omega arith, taken-starts _ _)
 
-writes-to-requires : tie.Need-writes-to-requires Inv-loop μ-loop
-writes-to-requires c κs = search needs
+writes-word-of-requires : tie.Need-writes-word-of-requires Inv-loop μ-loop
+writes-word-of-requires c κs = search needs
 
 insert-if-requires : tie.Need-insert-if-requires Inv-loop μ-loop
 insert-if-requires c κs = search needs
@@ -34,7 +34,7 @@ loop-less c =
 loop-again : tie.Need-loop-again Inv-loop μ-loop
 loop-again c =
     let inv = c .before .before .before .loop .inv in
-    (omega (arith, c .before .before .loop-test .taken), taken-on (inv .1) _ (c .before .writes-to .ensures) (c .insert-if .ensures))
+    (omega (arith, c .before .before .loop-test .taken), taken-on (inv .1) _ (c .before .writes-word-of .ensures) (c .insert-if .ensures))
 
 returns : tie.Need-returns Inv-loop μ-loop
 returns c =
@@ -47,7 +47,7 @@ with-writers-spec =
     Inv-loop
     μ-loop
     loop-holds
-    writes-to-requires
+    writes-word-of-requires
     insert-if-requires
     add-a
     loop-less

@@ -14,8 +14,11 @@ Inv-loop bytes buffer₀ length₀ steps₀ calls₀ buffer length steps calls =
 abbrev μ-loop : tie.MeasureT-loop
 μ-loop bytes buffer₀ length₀ steps₀ calls₀ buffer length steps calls = 100 - calls
 
+empty-requires : tie.Need-empty-requires Inv-loop μ-loop
+empty-requires c κs = search needs
+
 loop-holds : tie.Need-loop-holds Inv-loop μ-loop
-loop-holds c = calls-start
+loop-holds c = calls-start (c .before .empty .ensures .1) (c .before .empty .ensures .3)
 
 slice-aggregate-search : tie.Need-slice-aggregate-search Inv-loop μ-loop
 slice-aggregate-search c = search needs
@@ -64,6 +67,7 @@ search-in-calls-spec =
     (tie.spec
     Inv-loop
     μ-loop
+    empty-requires
     loop-holds
     slice-aggregate-search
     search-requires

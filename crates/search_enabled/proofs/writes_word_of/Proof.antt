@@ -7,8 +7,8 @@ use mathlib.Core.Bool.{Bool, _||_}
 use mathlib.Core.Path.{sym, ap, ap₂, _∙_}
 use Prim.Native.Nat.{ℕ, _%_}
 use borrow.Author.Needs.{needs}
-use Rattle.search_enabled.proofs.writes_to.Statement.{statement}
-use Rattle.search_enabled.proofs.writes_to.Tie as tie
+use Rattle.search_enabled.proofs.writes_word_of.Statement.{statement}
+use Rattle.search_enabled.proofs.writes_word_of.Tie as tie
 
 field-of-requires : tie.Need-field-of-requires
 field-of-requires c κs = search needs
@@ -35,7 +35,7 @@ returns-2 c =
     ∙ ap (λ (b : Bool). b || eqb (field (a .rows .now) 10 (a .a) % 128) (field (a .rows .now) 14 (a .y) % 128))
     (sym (ap₂ (λ (u v : ℕ). eqb (u % 128) (v % 128)) (sym (c .before .before .before .field-of .ensures)) (sym (c .before .before .field-of2 .ensures)) ∙ ne-eqb _ _ (c .before .if1 .left)))
 
-pub writes-to-spec : {M : Type 1} → statement M
-writes-to-spec =
+pub writes-word-of-spec : {M : Type 1} → statement M
+writes-word-of-spec =
     tie.close
     (tie.spec field-of-requires field-of-requires-2 returns field-of-requires-3 returns-2)
