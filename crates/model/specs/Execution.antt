@@ -1,7 +1,7 @@
 -- The execution that a record holds: processors, lines of memory, instructions and dependence pairs; instructions and their operations by number.
 use Prim.Native.Nat.{ℕ, suc, _+_, _/_, _%_}
-use mathlib.Core.Bool.{Bool, true, false}
-use mathlib.Core.List.{List, [], _∷_, map}
+use mathlib.Core.Bool.{Bool, true, false, cond}
+use mathlib.Core.List.{List, [], _∷_, _++_, map}
 use lib.ListN.{length, getD}
 use Rattle.base.specs.Lists.{keep, for, below}
 
@@ -12,40 +12,48 @@ pub data Kind : Type 0 where
 abbrev pub kindOf : ℕ → Kind
 kindOf k = getD (ld ∷ ld-acq ∷ st ∷ st-rel ∷ []) k mf
 
+-- What an operation is to its instruction. RV q is remote visibility to processor q.
+pub data Role : Type 0 where
+  R LV F : Role
+  RV : ℕ → Role
+
+-- What a kind does: whether it is a load, a store, acquires, releases, is a fence; its row and column of the table of program-order rules; and the operations
+-- that it gives before the RVs, which a store has.
+pub record KindRow : Type 0 where
+  pub reads : Bool
+  pub writes : Bool
+  pub acquires : Bool
+  pub releases : Bool
+  pub fences : Bool
+  pub row : ℕ
+  pub column : ℕ
+  pub alone : List Role
+
+abbrev kindDoes : Bool → Bool → Bool → Bool → Bool → ℕ → ℕ → List Role → KindRow
+kindDoes r w a l f i j os = record { reads = r; writes = w; acquires = a; releases = l; fences = f; row = i; column = j; alone = os }
+
+-- a kind a row: load, store, acquires, releases, fence, row, column, operations
+abbrev pub kindRow : Kind → KindRow
+kindRow ld = kindDoes true false false false false 0 0 (R ∷ [])
+kindRow ld-acq = kindDoes true false true false false 1 1 (R ∷ [])
+kindRow st = kindDoes false true false false false 2 2 (LV ∷ [])
+kindRow st-rel = kindDoes false true false true false 3 3 (LV ∷ [])
+kindRow mf = kindDoes false false false false true 4 4 (F ∷ [])
+
 abbrev pub isLoad : Kind → Bool
-isLoad ld = true
-isLoad ld-acq = true
-isLoad st = false
-isLoad st-rel = false
-isLoad mf = false
+isLoad k = kindRow k .reads
 
 abbrev pub isStore : Kind → Bool
-isStore ld = false
-isStore ld-acq = false
-isStore st = true
-isStore st-rel = true
-isStore mf = false
+isStore k = kindRow k .writes
 
 abbrev pub isAcquire : Kind → Bool
-isAcquire ld = false
-isAcquire ld-acq = true
-isAcquire st = false
-isAcquire st-rel = false
-isAcquire mf = false
+isAcquire k = kindRow k .acquires
 
 abbrev pub isRelease : Kind → Bool
-isRelease ld = false
-isRelease ld-acq = false
-isRelease st = false
-isRelease st-rel = true
-isRelease mf = false
+isRelease k = kindRow k .releases
 
 abbrev pub isFence : Kind → Bool
-isFence ld = false
-isFence ld-acq = false
-isFence st = false
-isFence st-rel = false
-isFence mf = true
+isFence k = kindRow k .fences
 
 -- The attribute of a line. Its number in the record is its place in this list.
 pub data Attribute : Type 0 where
@@ -87,18 +95,9 @@ pub record Execution : Type 0 where
 
 -- Operations
 
--- What an operation is to its instruction. RV q is remote visibility to processor q.
-pub data Role : Type 0 where
-  R LV F : Role
-  RV : ℕ → Role
-
 -- the operations that an instruction gives with P processors, in the order of their numbers: a load gives R; a store gives LV, then RV_0 to RV_(P-1); an mf gives F
 unfoldable pub roles : ℕ → Kind → List Role
-roles p ld = R ∷ []
-roles p ld-acq = R ∷ []
-roles p st = LV ∷ map RV (below p)
-roles p st-rel = LV ∷ map RV (below p)
-roles p mf = F ∷ []
+roles p k = kindRow k .alone ++ cond (isStore k) (map RV (below p)) []
 
 -- the number of operations of some instructions with P processors
 unfoldable pub operationCount : ℕ → List Instruction → ℕ

@@ -2,15 +2,7 @@
 use Prim.Native.Nat.{ℕ}
 use mathlib.Core.List.{List, [], _∷_}
 use lib.ListN.{getD}
-use Rattle.model.specs.Execution.{Kind, ld, ld-acq, st, st-rel, mf}
-
--- the number of a kind in the record, and its row and column
-abbrev pub kindNumber : Kind → ℕ
-kindNumber ld = 0
-kindNumber ld-acq = 1
-kindNumber st = 2
-kindNumber st-rel = 3
-kindNumber mf = 4
+use Rattle.model.specs.Execution.{Kind, kindRow}
 
 -- a mark is the number of a rule: A is rule 2, L rule 3, F rule 4
 abbrev A : ℕ
@@ -33,4 +25,4 @@ ruleMarks =
     ∷ []
 
 unfoldable pub marks : Kind → Kind → List ℕ
-marks earlier later = getD (getD ruleMarks (kindNumber earlier) []) (kindNumber later) []
+marks earlier later = getD (getD ruleMarks (kindRow earlier .row) []) (kindRow later .column) []

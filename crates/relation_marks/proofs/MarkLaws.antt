@@ -14,8 +14,8 @@ use Rattle.base.proofs.Bits.{bit-packed}
 use Rattle.base.proofs.Lists.{any-witness, any-member, all-member, in-count, of-count, getD-below}
 use Rattle.base.specs.Below.{anyBelow}
 use Rattle.base.proofs.Tests.{any-numbered}
-use Rattle.model.specs.Execution.{Kind, WC, attributeOf, Line, noLine, Instruction}
-use Rattle.model.specs.ProgramOrder.{kindNumber, ruleMarks, marks}
+use Rattle.model.specs.Execution.{Kind, WC, attributeOf, Line, noLine, Instruction, kindRow}
+use Rattle.model.specs.ProgramOrder.{ruleMarks, marks}
 use Rattle.model.proofs.ProgramOrder.{kinds, listed}
 use Rattle.model.specs.Rules.{addresses, accesses, overlap}
 use Rattle.record_decoded.specs.declared.types.Lines.{Lines}
@@ -62,9 +62,9 @@ programOrder =
 
 -- one test of the whole table
 right : Kind → Kind → Bool
-right j k = eqb (getD (getD programOrder (kindNumber j) []) (kindNumber k) 0) (programMarks j k)
+right j k = eqb (getD (getD programOrder (kindRow j .row) []) (kindRow k .column) 0) (programMarks j k)
 
-pub program-order : (j k : Kind) → getD (getD programOrder (kindNumber j) []) (kindNumber k) 0 ≡ programMarks j k
+pub program-order : (j k : Kind) → getD (getD programOrder (kindRow j .row) []) (kindRow k .column) 0 ≡ programMarks j k
 unfolding right all programMarks marks ruleMarks member packed packedOn
 program-order j k = eqb-true _ _ (all-member (right j) (listed k) (all-member (λ j. all (right j) kinds) (listed j) refl))
 
