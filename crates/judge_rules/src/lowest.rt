@@ -14,6 +14,7 @@ use crate::pairwise::pairs_broken;
 use judge_sights::sights_broken;
 use record_decoded::position::Position;
 use record_decoded::types::Execution;
+use relation_links::link::RULES;
 use relation_links::operations::Operations;
 
 // No rule, or the lowest, by its number.
@@ -62,7 +63,7 @@ pub fn lowest_broken(
     requires { ⌜ Compiled x t (now marks) ⌝ }
     ensures { λ r. ⌜ ((n : ℕ) (xs : List ℕ) → Placed n xs (now (places .entry)) → lowestMeant r ≡ lowestBroken (executionOf x) xs) ⌝ }
 {
-    for k in 0u8..14 {
+    for k in 0u8..RULES {
         let rule = k + 1;
         if rule_broken(rule, x, t, marks, places) {
             return Lowest::Broken(rule);

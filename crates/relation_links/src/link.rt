@@ -11,8 +11,8 @@ use record_decoded::kind::ROLE_LV;
 use record_decoded::kind::ROLE_R;
 use record_decoded::kind::ROLE_RV;
 use relation_marks::table::ACQUIRE;
-use relation_marks::table::CONFLICT;
 use relation_marks::table::FENCE;
+use relation_marks::table::LINK_MARKS;
 use relation_marks::table::OVERLAP;
 use relation_marks::table::PAIR;
 use relation_marks::table::RELEASE;
@@ -76,8 +76,11 @@ fn is_same_visibility(a: u8, b: u8) -> bool
     }
 }
 
-// The marks that rules 0 to 13 ask for. Rules without a link ask for SAME.
-const RULE_MARKS: [u16; 14] = [
+// How many visibility rules there are.
+pub const RULES: u8 = 14;
+
+// The marks that the rules below the last ask for, by their numbers from 0 on. Rules without a link ask for SAME.
+const RULE_MARKS: [u16; RULES as usize] = [
     SAME,
     SAME,
     ACQUIRE,
@@ -98,7 +101,7 @@ const RULE_MARKS: [u16; 14] = [
 pub fn rule_mark(rule: u8) -> u16
     ensures { λ r. ⌜ (r ≡ ruleMark rule) × (0 < r) ⌝ }
 {
-    if rule < 14 {
+    if rule < RULES {
         RULE_MARKS[rule as usize]
     } else {
         SAME
@@ -136,12 +139,11 @@ pub fn link(rule: u8, marks: u16, processor: u8, a: u8, b: u8) -> bool
     )
 }
 
-// Whether some rule links two operations, the first of `processor`. The marks that links ask for are below CONFLICT, and from an RV only rules 1, 3
-// and 4 link.
+// Whether some rule links two operations, the first of `processor`. From an RV only rules 1, 3 and 4 link.
 pub fn is_linked(marks: u16, processor: u8, a: u8, b: u8) -> bool
     ensures { λ r. ⌜ r ≡ linkedBy marks processor (roleNumbered a) (roleNumbered b) ⌝ }
 {
-    if marks % CONFLICT == 0 {
+    if marks & LINK_MARKS == 0 {
         return false;
     }
     if link(1, marks, processor, a, b) {

@@ -31,6 +31,11 @@ pub const BYPASS: u16 = 256;
 
 pub const ATOMIC: u16 = 512;
 
+// The marks that some link asks for, and those that a link to an RV asks for.
+pub const LINK_MARKS: u16 = SAME + ACQUIRE + RELEASE + FENCE + OVERLAP + PAIR + UNCACHEABLE;
+
+pub const REMOTE_LINK_MARKS: u16 = SAME + ACQUIRE + RELEASE + FENCE;
+
 // The program-order rules, earlier kind by row, later kind by column.
 const PROGRAM_ORDER: [[u16; 5]; 5] = [
     [0, 0, 0, RELEASE, FENCE],

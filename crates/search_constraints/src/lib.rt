@@ -25,8 +25,9 @@ use relation_marks::table::ATOMIC;
 use relation_marks::table::BYPASS;
 use relation_marks::table::CONFLICT;
 use relation_marks::table::FENCE;
-use relation_marks::table::OVERLAP;
+use relation_marks::table::LINK_MARKS;
 use relation_marks::table::RELEASE;
+use relation_marks::table::REMOTE_LINK_MARKS;
 use relation_marks::table::SAME;
 use relation_marks::table::both;
 use relation_marks::table::has_mark;
@@ -75,15 +76,14 @@ fn with_remotes(
     insert_if(by_own, 1 + first + same, both(released, same < processors))
 }
 
-// Whether no operation is linked to one with a role, by the marks of their instructions. The marks that links ask for are below CONFLICT, and those that
-// links to an RV ask for below OVERLAP.
+// Whether no operation is linked to one with a role, by the marks of their instructions.
 fn is_unlinked(marks: u16, role: u8) -> bool
     ensures { λ r. ⌜ (r ≡ true → (p : ℕ) (a : Role) → linkedBy marks p a (roleNumbered role) ≡ false) ⌝ }
 {
     if role < ROLE_RV {
-        marks % CONFLICT == 0
+        marks & LINK_MARKS == 0
     } else {
-        marks % OVERLAP == 0
+        marks & REMOTE_LINK_MARKS == 0
     }
 }
 

@@ -1,5 +1,6 @@
 -- No mark, the first rule that links, an RV that none of rules 1, 3 and 4 links, and rule 13 at last.
 use native.Mathlib.Omega.{arith}
+use lib.Bits.{and-mask}
 use mathlib.Core.Path.{sym, _∙_}
 use Rattle.record_decoded.specs.Kinds.{roleNumbered}
 use Rattle.relation_links.proofs.LinkedLaws.{rule-links, last-rule, no-mark, from-remote}
@@ -10,7 +11,7 @@ use Rattle.relation_links.proofs.link.is_linked.Tie as tie
 returns : tie.Need-returns
 returns c =
     let a = c .before .args in
-    no-mark (a .marks) (a .processor) (roleNumbered (a .a)) (roleNumbered (a .b)) (c .if1 .taken)
+    no-mark (a .marks) (a .processor) (roleNumbered (a .a)) (roleNumbered (a .b)) (sym (and-mask (a .marks) 7) ∙ c .if1 .taken)
 
 link-requires : tie.Need-link-requires
 link-requires c κs = search needs
