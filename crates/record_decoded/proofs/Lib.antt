@@ -3,4 +3,3 @@ pub mod Counts
 pub mod Eights
 pub mod Items
 pub mod Arrays
-pub mod KindLaws

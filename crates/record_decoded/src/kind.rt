@@ -2,8 +2,8 @@
 ghost use mathlib.Core.Path.{_≡_};
 ghost use Prim.Native.Nat.{ℕ, _+_, _/_, _<_, _≤_};
 ghost use lib.ListN.{length, getD};
-ghost use Rattle.model.specs.Execution.{F, kindOf, kindRow, attributeOf, isLoad, isStore, isAcquire, isRelease, isFence, roles};
-ghost use Rattle.record_decoded.specs.Kinds.{meant, kindNumber, kindFields, roleNumbered, attributeMeant};
+ghost use Rattle.model.specs.Execution.{F, kindOf, attributeOf, isLoad, isStore, isAcquire, isRelease, isFence, roles};
+ghost use Rattle.record_decoded.specs.Kinds.{meant, roleNumbered, attributeMeant};
 
 pub enum Kind {
     Ld,
@@ -26,6 +26,66 @@ pub fn kind_of(k: u8) -> Kind
     }
 }
 
+pub fn is_load(k: Kind) -> bool
+    ensures { λ r. ⌜ r ≡ isLoad (meant k) ⌝ }
+{
+    match k {
+        Kind::Ld => true,
+        Kind::LdAcq => true,
+        Kind::St => false,
+        Kind::StRel => false,
+        Kind::Mf => false,
+    }
+}
+
+pub fn is_store(k: Kind) -> bool
+    ensures { λ r. ⌜ r ≡ isStore (meant k) ⌝ }
+{
+    match k {
+        Kind::Ld => false,
+        Kind::LdAcq => false,
+        Kind::St => true,
+        Kind::StRel => true,
+        Kind::Mf => false,
+    }
+}
+
+pub fn is_acquire(k: Kind) -> bool
+    ensures { λ r. ⌜ r ≡ isAcquire (meant k) ⌝ }
+{
+    match k {
+        Kind::Ld => false,
+        Kind::LdAcq => true,
+        Kind::St => false,
+        Kind::StRel => false,
+        Kind::Mf => false,
+    }
+}
+
+pub fn is_release(k: Kind) -> bool
+    ensures { λ r. ⌜ r ≡ isRelease (meant k) ⌝ }
+{
+    match k {
+        Kind::Ld => false,
+        Kind::LdAcq => false,
+        Kind::St => false,
+        Kind::StRel => true,
+        Kind::Mf => false,
+    }
+}
+
+pub fn is_fence(k: Kind) -> bool
+    ensures { λ r. ⌜ r ≡ isFence (meant k) ⌝ }
+{
+    match k {
+        Kind::Ld => false,
+        Kind::LdAcq => false,
+        Kind::St => false,
+        Kind::StRel => false,
+        Kind::Mf => true,
+    }
+}
+
 // The roles of operations as numbers; RV_q is ROLE_RV + q.
 pub const ROLE_R: u8 = 0;
 
@@ -34,95 +94,6 @@ pub const ROLE_LV: u8 = 1;
 pub const ROLE_F: u8 = 2;
 
 pub const ROLE_RV: u8 = 3;
-
-// What a kind does, a row for each in the order of their numbers. By column: load, store, acquires, releases, fence; its row and column of the table of the
-// program-order rules.
-const KINDS: [[u8; 7]; 5] = [
-    [1, 0, 0, 0, 0, 0, 0],
-    [1, 0, 1, 0, 0, 1, 1],
-    [0, 1, 0, 0, 0, 2, 2],
-    [0, 1, 0, 1, 0, 3, 3],
-    [0, 0, 0, 0, 1, 4, 4],
-];
-
-const READS: usize = 0;
-
-const WRITES: usize = 1;
-
-const ACQUIRES: usize = 2;
-
-const RELEASES: usize = 3;
-
-const FENCES: usize = 4;
-
-const TABLE_ROW: usize = 5;
-
-const TABLE_COLUMN: usize = 6;
-
-// The number of a kind, which is its row of KINDS.
-fn kind_number(k: Kind) -> usize
-    ensures { λ r. ⌜ (r ≡ kindNumber (meant k)) × (r < 5) ⌝ }
-{
-    match k {
-        Kind::Ld => 0,
-        Kind::LdAcq => 1,
-        Kind::St => 2,
-        Kind::StRel => 3,
-        Kind::Mf => 4,
-    }
-}
-
-// A column of a kind's row.
-fn kind_field(k: Kind, column: usize) -> u8
-    requires { ⌜ column < 7 ⌝ }
-    ensures { λ r. ⌜ r ≡ getD (kindFields (meant k)) column 0 ⌝ }
-{
-    let row = kind_number(k);
-    KINDS[row][column]
-}
-
-pub fn is_load(k: Kind) -> bool
-    ensures { λ r. ⌜ r ≡ isLoad (meant k) ⌝ }
-{
-    kind_field(k, READS) == 1
-}
-
-pub fn is_store(k: Kind) -> bool
-    ensures { λ r. ⌜ r ≡ isStore (meant k) ⌝ }
-{
-    kind_field(k, WRITES) == 1
-}
-
-pub fn is_acquire(k: Kind) -> bool
-    ensures { λ r. ⌜ r ≡ isAcquire (meant k) ⌝ }
-{
-    kind_field(k, ACQUIRES) == 1
-}
-
-pub fn is_release(k: Kind) -> bool
-    ensures { λ r. ⌜ r ≡ isRelease (meant k) ⌝ }
-{
-    kind_field(k, RELEASES) == 1
-}
-
-pub fn is_fence(k: Kind) -> bool
-    ensures { λ r. ⌜ r ≡ isFence (meant k) ⌝ }
-{
-    kind_field(k, FENCES) == 1
-}
-
-// A kind's row and column of the table of the program-order rules.
-pub fn table_row(k: Kind) -> usize
-    ensures { λ r. ⌜ (r ≡ kindRow (meant k) .row) × (r < 5) ⌝ }
-{
-    kind_field(k, TABLE_ROW) as usize
-}
-
-pub fn table_column(k: Kind) -> usize
-    ensures { λ r. ⌜ (r ≡ kindRow (meant k) .column) × (r < 5) ⌝ }
-{
-    kind_field(k, TABLE_COLUMN) as usize
-}
 
 // The role of an instruction's operation by its place among them.
 pub fn role_of(k: Kind, place: u8) -> u8
