@@ -5,6 +5,5 @@ pub mod Lex
 pub mod Tests
 pub mod Folds
 pub mod Copies
-pub mod Scans
 pub mod Bits
 pub mod Entries

@@ -98,15 +98,6 @@ module _ {A : Type 0} where
       go true h = ap (λ (t : Bool). p a || t) h
       go false h = h
 
-  pub all-append : (p : A → Bool) (l m : List A) → all p (l ++ m) ≡ (all p l && all p m)
-  unfolding all
-  all-append p [] m = refl
-  all-append p (a ∷ l) m = rw (all-append p l m) (go (p a) (all p l) (all p m))
-    where
-      go : (a b c : Bool) → (a && (b && c)) ≡ (a && b && c)
-      go true b c = refl
-      go false b c = refl
-
   pub all-member : (p : A → Bool) {a : A} {l : List A} → List·Memᴰ a l → all p l ≡ true → p a ≡ true
   unfolding all
   all-member p (List·Memᴰ·head {x = x} {xs = l} e) h = ap p e ∙ and-parts (p x) (all p l) h .0
@@ -281,6 +272,12 @@ unfolding count
 getD-count f d from zero i h = absurd (omega arith)
 getD-count f d from (suc n) zero h = ap f (omega arith)
 getD-count f d from (suc n) (suc i) h = getD-count f d (suc from) n i (omega arith) ∙ ap f (omega arith)
+
+-- an element, as a test of the list
+pub member-any : (l : List ℕ) (a : ℕ) → member l a ≡ any (λ b. eqb b a) l
+unfolding member any
+member-any [] a = refl
+member-any (x ∷ l) a = ap (λ (t : Bool). eqb x a || t) (member-any l a)
 
 pub getD-below : {A : Type 0} (f : ℕ → A) (d : A) (n i : ℕ) → i < n → getD (map f (below n)) i d ≡ f i
 unfolding below

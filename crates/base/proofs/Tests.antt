@@ -47,17 +47,6 @@ module _ (p : ℕ → Bool) where
   all-first zero = sym (and-true (p 0))
   all-first (suc n) = ap (λ (t : Bool). t && p (suc n)) (all-first n) ∙ and-assoc (p 0) (allBelow n (λ k. p (suc k))) (p (suc n))
 
-  -- some number passes exactly when not all fail
-  pub any-not-all : (n : ℕ) → anyBelow n p ≡ not (allBelow n (λ k. not (p k)))
-  unfolding allBelow anyBelow
-  any-not-all zero = refl
-  any-not-all (suc n) = rw (any-not-all n) (go (allBelow n (λ k. not (p k))) (p n))
-    where
-      go : (a b : Bool) → (not a || b) ≡ not (a && not b)
-      go true true = refl
-      go true false = refl
-      go false b = refl
-
 -- a test of every element of a list, by index
 pub all-elements : {A : Type 0} (p : A → Bool) (d : A) (l : List A) → allBelow (length l) (λ k. p (getD l k d)) ≡ all p l
 unfolding allBelow all

@@ -1,21 +1,19 @@
 -- The tests of rules 9, 10, 12 and 14 over tables say what the rules say.
-use Prim.Native.Nat.{ℕ, _+_, _-_, _*_, _<_}
-use native.Mathlib.Omega.{arith}
-use mathlib.Core.Path.{_≡_, refl, sym, ap, ap₂, _∙_, subst}
+use Prim.Native.Nat.{ℕ, _-_, _<_}
+use mathlib.Core.Path.{_≡_, refl, sym, ap, ap₂, _∙_}
 use mathlib.Core.Bool.{Bool, true, false, not, _&&_, and-assoc}
-use mathlib.Core.List.{List, [], _∷_, map, List·Memᴰ, Memᴰ·map, Memᴰ·of-map}
+use mathlib.Core.List.{List, [], _∷_, map}
 use lib.ListN.{getD}
-use lib.Dec.{eqb, leb, ltb}
+use lib.Dec.{eqb}
 use Rattle.base.specs.Lists.{any, keep, when, for, below, member}
 use Rattle.base.specs.Below.{anyBelow}
-use borrow.Author.Tests.{eq-eqb, le-leb, lt-ltb, leb-true, ltb-true}
+use borrow.Author.Tests.{eq-eqb}
 use Rattle.base.specs.Bits.{bit}
-use Rattle.base.proofs.Bools.{agree, and-parts, and-both}
 use Rattle.base.proofs.Bits.{bit-packed}
-use Rattle.base.proofs.Lists.{any-same, any-for, any-map, any-when, any-one, any-and, any-and-after, any-keep, any-swap, in-below, of-below, member-in, in-member}
+use Rattle.base.proofs.Lists.{any-same, any-for, any-map, any-when, any-one, any-and, any-and-after, any-keep, any-swap, member-any}
 use Rattle.base.proofs.Tests.{any-numbered, any-below, any-below-same, any-below-and, any-below-and-after, any-passes}
 use Rattle.model.specs.Execution as model
-use Rattle.model.specs.Execution.{isLoad, isStore, isRelease, RV, numberOf, stores, loads, everyProcessor, operations}
+use Rattle.model.specs.Execution.{isLoad, isStore, isRelease, R, LV, RV, numberOf, stores, loads, everyProcessor, operations}
 use Rattle.model.specs.Rules.{before, overlap, inWB, inUC, Claim, never, broken, RV-own, conflict, forConflicts, rule9, rule10, remoteOf, rule12, rule14}
 use Rattle.record_decoded.specs.declared.types.Execution.{Execution}
 use Rattle.record_decoded.specs.Decoded.{instructionAt, instructionsOf, executionOf}
@@ -23,29 +21,8 @@ use Rattle.relation_places.specs.Places.{Placed, beforeBy}
 use Rattle.relation_places.proofs.PlaceLaws.{before-placed}
 use Rattle.relation_marks.specs.Marks.{hasMark, markAt, marksOf, marksBetween}
 use Rattle.relation_links.specs.declared.operations.Operations.{Operations}
-use Rattle.judge_rules.specs.Tests.{someBefore, ownTurned, remoteTurned, releaseSplitBy, releaseSplit, bypassed, pairBroken, pairsBroken}
+use Rattle.judge_rules.specs.Tests.{remoteBefore, ownTurned, remoteTurned, releaseSplitBy, releaseSplit, bypassed, pairBroken, pairsBroken}
 use Rattle.relation_links.specs.Compiled.{Compiled}
-
--- the RVs of a store by number
-remote-range : (w : model.Instruction) (P o : ℕ) → member (map (λ q. numberOf w (RV q)) (below P)) o ≡ (leb (1 + w .first) o && ltb o (1 + w .first + P))
-remote-range w P o = agree (member remote o) (leb (1 + w .first) o && ltb o (1 + w .first + P)) within reaches
-  where
-    remote : List ℕ
-    remote = map (λ q. numberOf w (RV q)) (below P)
-
-    within : member remote o ≡ true → (leb (1 + w .first) o && ltb o (1 + w .first + P)) ≡ true
-    within t =
-        let (q, m, h) = Memᴰ·of-map (λ q. numberOf w (RV q)) (below P) (member-in remote o t) in
-        let l = of-below P m in
-        and-both (le-leb (1 + w .first) o (omega arith)) (lt-ltb o (1 + w .first + P) (omega arith))
-
-    reaches : (leb (1 + w .first) o && ltb o (1 + w .first + P)) ≡ true → member remote o ≡ true
-    reaches t =
-        let (a, b) = and-parts (leb (1 + w .first) o) (ltb o (1 + w .first + P)) t in
-        let low = leb-true (1 + w .first) o a in
-        let high = ltb-true o (1 + w .first + P) b in
-        let z : numberOf w (RV (o - (1 + w .first))) ≡ o = omega arith in
-        in-member (subst (λ (k : ℕ). List·Memᴰ k remote) z (Memᴰ·map (λ q. numberOf w (RV q)) (in-below P (o - (1 + w .first)) (omega arith))))
 
 -- the order of the tests of rule 12
 reordered : (M : ℕ → Bool) (A B : ℕ → ℕ → Bool) (remote numbers : List ℕ)
@@ -113,13 +90,9 @@ module _ (x : Execution) where
         ∙ four (isStore (instruction i .kind)) (isStore (instruction j .kind)) (conflict e (instruction i) (instruction j)) (g i j)
         ∙ ap (λ (u : Bool). u && g i j) (sym (bit-is 7 i j a b)))))
 
-    -- 'before' of operations by the numbers of the code
-    before-is : (a b c d : ℕ) → a ≡ c → b ≡ d → before xs a b ≡ beforeBy places c d
-    before-is a b c d f g = before-placed p a b ∙ ap₂ (beforeBy places) f g
-
     -- the arms of the test of two instructions
     arm : (rule N P : ℕ) (g : ℕ → ℕ → ℕ → Bool)
-        → ((i j : ℕ) → pairBroken places rule (markAt marks i j) N P (instruction i .first) (instruction j .first) (instruction i .processor) (instruction j .processor) ≡ g (markAt marks i j) i j)
+        → ((i j : ℕ) → pairBroken places rule (markAt marks i j) N P (instruction i) (instruction j) ≡ g (markAt marks i j) i j)
         → pairsBroken places rule (x .instructions) marks N P ≡ anyBelow number (λ i. anyBelow number (λ j. g (markAt marks i j) i j))
     unfolding pairsBroken instructionAt
     arm rule N P g is = any-below-same _ _ number (λ i a. any-below-same _ _ number (λ j b. is i j))
@@ -127,18 +100,17 @@ module _ (x : Execution) where
     pub rule9-means : (N : ℕ) → pairsBroken places 9 (x .instructions) marks N (x .processors) ≡ any (broken xs) (rule9 e)
     unfolding rule9 pairBroken ownTurned broken
     rule9-means N =
-        arm 9 N (x .processors) (λ m i j. hasMark m 128 && ownTurned places (instruction i .first) (instruction j .first) (instruction i .processor) (instruction j .processor)) (λ i j. refl)
+        arm 9 N (x .processors) (λ m i j. hasMark m 128 && ownTurned places (instruction i) (instruction j)) (λ i j. refl)
         ∙ conflicts-mean _ _ (λ i j.
         any-when (broken xs) (eqb (instruction i .processor) (instruction j .processor)) _
         ∙ ap (λ (u : Bool). eqb (instruction i .processor) (instruction j .processor) && u)
         (any-one (broken xs) _
-        ∙ ap₂ _&&_ (before-is (instruction i .first) (instruction j .first) (instruction i .first) (instruction j .first) refl refl)
-        (before-is (RV-own (instruction j)) (RV-own (instruction i)) (1 + instruction j .first + instruction j .processor) (1 + instruction i .first + instruction i .processor) (omega arith) (omega arith))))
+        ∙ ap₂ _&&_ (before-placed p (numberOf (instruction i) LV) (numberOf (instruction j) LV)) (before-placed p (RV-own (instruction j)) (RV-own (instruction i)))))
 
     pub rule10-means : (N : ℕ) → pairsBroken places 10 (x .instructions) marks N (x .processors) ≡ any (broken xs) (rule10 e)
-    unfolding rule10 pairBroken remoteTurned someBefore everyProcessor broken executionOf
+    unfolding rule10 pairBroken remoteTurned remoteBefore everyProcessor broken executionOf
     rule10-means N =
-        arm 10 N (x .processors) (λ m i j. hasMark m 128 && remoteTurned places (x .processors) (instruction i .first) (instruction j .first)) (λ i j. refl)
+        arm 10 N (x .processors) (λ m i j. hasMark m 128 && remoteTurned places (x .processors) (instruction i) (instruction j)) (λ i j. refl)
         ∙ conflicts-mean _ _ (λ i j.
         any-for (broken xs) (below (x .processors)) _
         ∙ any-same _ _ (below (x .processors)) (λ r m. any-map (broken xs) _ (below (x .processors)) ∙ any-and (ahead i j r) (ahead j i) (below (x .processors)))
@@ -148,33 +120,31 @@ module _ (x : Execution) where
         ahead : ℕ → ℕ → ℕ → Bool
         ahead i j r = before xs (numberOf (instruction i) (RV r)) (numberOf (instruction j) (RV r))
 
-        any-ahead : (i j : ℕ) → any (ahead i j) (below (x .processors)) ≡ someBefore places (x .processors) (1 + instruction i .first) 1 (1 + instruction j .first) 1
+        any-ahead : (i j : ℕ) → any (ahead i j) (below (x .processors)) ≡ remoteBefore places (x .processors) (instruction i) (instruction j)
         any-ahead i j =
             any-below (ahead i j) (x .processors)
-            ∙ any-below-same _ _ (x .processors) (λ r l.
-            before-is (numberOf (instruction i) (RV r)) (numberOf (instruction j) (RV r)) (1 + instruction i .first + r * 1) (1 + instruction j .first + r * 1) (omega arith) (omega arith))
+            ∙ any-below-same _ _ (x .processors) (λ r l. before-placed p (numberOf (instruction i) (RV r)) (numberOf (instruction j) (RV r)))
 
     pub rule14-means : (N : ℕ) → pairsBroken places 14 (x .instructions) marks N (x .processors) ≡ any (broken xs) (rule14 e)
     unfolding rule14 pairBroken bypassed stores loads marksOf broken
     rule14-means N =
-        arm 14 N (x .processors) (λ m i j. hasMark m 256 && bypassed places (instruction i .first) (instruction j .first) (instruction i .processor)) (λ i j. refl)
+        arm 14 N (x .processors) (λ m i j. hasMark m 256 && bypassed places (instruction i) (instruction j)) (λ i j. refl)
         ∙ sym (any-for (broken xs) (stores e) _
         ∙ any-same _ _ (stores e) (λ w m. any-for (broken xs) (loads e) _ ∙ any-same _ _ (loads e) (λ l k. any-when (broken xs) (exposed w l) _ ∙ ap (λ (u : Bool). exposed w l && u) (any-one (broken xs) _)))
-        ∙ pairs-by-number (λ i. isStore (i .kind)) (λ i. isLoad (i .kind)) (λ w l. exposed w l && (before xs (w .first) (l .first) && before xs (l .first) (RV-own w)))
+        ∙ pairs-by-number (λ i. isStore (i .kind)) (λ i. isLoad (i .kind)) (λ w l. exposed w l && (before xs (numberOf w LV) (numberOf l R) && before xs (numberOf l R) (RV-own w)))
         ∙ any-below-same _ _ number (λ i a. any-below-same _ _ number (λ j b.
         ap (λ (u : Bool). isStore (instruction i .kind) && (isLoad (instruction j .kind) && (exposed (instruction i) (instruction j) && u)))
-        (ap₂ _&&_ (before-is (instruction i .first) (instruction j .first) (instruction i .first) (instruction j .first) refl refl)
-        (before-is (instruction j .first) (RV-own (instruction i)) (instruction j .first) (1 + instruction i .first + instruction i .processor) refl (omega arith)))
-        ∙ four (isStore (instruction i .kind)) (isLoad (instruction j .kind)) (exposed (instruction i) (instruction j)) (bypassed places (instruction i .first) (instruction j .first) (instruction i .processor))
-        ∙ ap (λ (u : Bool). u && bypassed places (instruction i .first) (instruction j .first) (instruction i .processor)) (sym (bit-is 8 i j a b)))))
+        (ap₂ _&&_ (before-placed p (numberOf (instruction i) LV) (numberOf (instruction j) R)) (before-placed p (numberOf (instruction j) R) (RV-own (instruction i))))
+        ∙ four (isStore (instruction i .kind)) (isLoad (instruction j .kind)) (exposed (instruction i) (instruction j)) (bypassed places (instruction i) (instruction j))
+        ∙ ap (λ (u : Bool). u && bypassed places (instruction i) (instruction j)) (sym (bit-is 8 i j a b)))))
       where
         exposed : model.Instruction → model.Instruction → Bool
         exposed w l = inUC e w && (eqb (w .processor) (l .processor) && overlap w l)
 
     -- the operations that split the RVs of a store
     split-means : (i N : ℕ) → any (λ a. any (λ c. any (broken xs) (for (keep (λ o. not (member (remoteOf e (instruction i)) o)) (below N)) (λ o. never a o c ∷ []))) (remoteOf e (instruction i))) (remoteOf e (instruction i))
-        ≡ releaseSplit places N (x .processors) (instruction i .first)
-    unfolding releaseSplit releaseSplitBy someBefore remoteOf everyProcessor broken executionOf
+        ≡ releaseSplit places N (x .processors) (instruction i)
+    unfolding releaseSplit releaseSplitBy remoteOf everyProcessor broken executionOf
     split-means i N =
         any-same _ _ remote (λ a m. any-same _ _ remote (λ c k.
         any-for (broken xs) (keep (λ o. not (member remote o)) (below N)) _
@@ -183,29 +153,31 @@ module _ (x : Execution) where
         ∙ reordered (λ o. not (member remote o)) (before xs) (before xs) remote (below N)
         ∙ any-below _ N
         ∙ any-below-same _ _ N (λ o l.
-        ap₂ _&&_ (ap not (remote-range (instruction i) (x .processors) o)) (ap₂ _&&_ (from-remote o) (to-remote o)))
+        ap₂ _&&_ (ap not (is-remote o)) (ap₂ _&&_ (from-remote o) (to-remote o)))
       where
         remote : List ℕ
         remote = map (λ q. numberOf (instruction i) (RV q)) (below (x .processors))
 
-        from-remote : (o : ℕ) → any (λ a. before xs a o) remote ≡ someBefore places (x .processors) (1 + instruction i .first) 1 o 0
-        from-remote o =
-            any-numbered (λ a. before xs a o) (λ q. numberOf (instruction i) (RV q)) (x .processors)
-            ∙ any-below-same _ _ (x .processors) (λ q l. before-is (numberOf (instruction i) (RV q)) o (1 + instruction i .first + q * 1) (o + q * 0) (omega arith) (omega arith))
+        number : ℕ → ℕ
+        number q = numberOf (instruction i) (RV q)
 
-        to-remote : (o : ℕ) → any (before xs o) remote ≡ someBefore places (x .processors) o 0 (1 + instruction i .first) 1
-        to-remote o =
-            any-numbered (before xs o) (λ q. numberOf (instruction i) (RV q)) (x .processors)
-            ∙ any-below-same _ _ (x .processors) (λ q l. before-is o (numberOf (instruction i) (RV q)) (o + q * 0) (1 + instruction i .first + q * 1) (omega arith) (omega arith))
+        is-remote : (o : ℕ) → member remote o ≡ anyBelow (x .processors) (λ q. eqb (number q) o)
+        is-remote o = member-any remote o ∙ any-numbered (λ a. eqb a o) number (x .processors)
+
+        from-remote : (o : ℕ) → any (λ a. before xs a o) remote ≡ anyBelow (x .processors) (λ q. beforeBy places (number q) o)
+        from-remote o = any-numbered (λ a. before xs a o) number (x .processors) ∙ any-below-same _ _ (x .processors) (λ q l. before-placed p (number q) o)
+
+        to-remote : (o : ℕ) → any (before xs o) remote ≡ anyBelow (x .processors) (λ q. beforeBy places o (number q))
+        to-remote o = any-numbered (before xs o) number (x .processors) ∙ any-below-same _ _ (x .processors) (λ q l. before-placed p o (number q))
 
     pub rule12-means : pairsBroken places 12 (x .instructions) marks (operations e) (x .processors) ≡ any (broken xs) (rule12 e)
     unfolding rule12 pairBroken stores marksOf instructionAt
     rule12-means =
-        arm 12 (operations e) (x .processors) (λ m i j. hasMark m 512 && releaseSplit places (operations e) (x .processors) (instruction i .first)) (λ i j. refl)
+        arm 12 (operations e) (x .processors) (λ m i j. hasMark m 512 && releaseSplit places (operations e) (x .processors) (instruction i)) (λ i j. refl)
         ∙ any-below-same _ _ number (λ i a.
-        any-below-same _ _ number (λ j b. ap (λ (u : Bool). u && releaseSplit places (operations e) (x .processors) (instruction i .first)) (bit-is 9 i j a b))
-        ∙ diagonal number i a (isStore (instruction i .kind) && (isRelease (instruction i .kind) && inWB e (instruction i))) (releaseSplit places (operations e) (x .processors) (instruction i .first))
-        ∙ and-assoc (isStore (instruction i .kind)) (isRelease (instruction i .kind) && inWB e (instruction i)) (releaseSplit places (operations e) (x .processors) (instruction i .first)))
+        any-below-same _ _ number (λ j b. ap (λ (u : Bool). u && releaseSplit places (operations e) (x .processors) (instruction i)) (bit-is 9 i j a b))
+        ∙ diagonal number i a (isStore (instruction i .kind) && (isRelease (instruction i .kind) && inWB e (instruction i))) (releaseSplit places (operations e) (x .processors) (instruction i))
+        ∙ and-assoc (isStore (instruction i .kind)) (isRelease (instruction i .kind) && inWB e (instruction i)) (releaseSplit places (operations e) (x .processors) (instruction i)))
         ∙ sym (any-for (broken xs) (keep atomic (stores e)) _
         ∙ any-same _ _ (keep atomic (stores e)) (λ w m. any-for (broken xs) (remoteOf e w) _ ∙ any-same _ _ (remoteOf e w) (λ a k. any-for (broken xs) (remoteOf e w) _))
         ∙ any-keep splits atomic (stores e)

@@ -14,6 +14,7 @@ use crate::pairwise::pairs_broken;
 use judge_sights::sights_broken;
 use record_decoded::position::Position;
 use record_decoded::types::Execution;
+use record_decoded::types::MOST_INSTRUCTIONS;
 use relation_links::link::RULES;
 use relation_links::operations::Operations;
 
@@ -28,7 +29,7 @@ fn rule_broken(
     rule: u8,
     x: Execution,
     t: Operations,
-    marks: &[[u16; 40]; 40],
+    marks: &[[u16; MOST_INSTRUCTIONS]; MOST_INSTRUCTIONS],
     places: &[u8; Position::LIMIT],
 ) -> bool
     requires { ⌜ (1 ≤ rule) × (rule ≤ 14) × (x .instructions .count ≤ 40) × (x .lines .count ≤ 8) × (x .processors ≤ 8) × (t .count ≤ 128) ⌝ }
@@ -56,7 +57,7 @@ fn rule_broken(
 pub fn lowest_broken(
     x: Execution,
     t: Operations,
-    marks: &[[u16; 40]; 40],
+    marks: &[[u16; MOST_INSTRUCTIONS]; MOST_INSTRUCTIONS],
     places: &[u8; Position::LIMIT],
 ) -> Lowest
     requires { ⌜ (x .instructions .count ≤ 40) × (x .lines .count ≤ 8) × (x .processors ≤ 8) × (t .count ≤ 128) ⌝ }

@@ -1,83 +1,123 @@
 // Rules 9, 10, 12 and 14: what two instructions, by their marks, ask of the places of their operations.
 ghost use mathlib.Core.Path.{_≡_};
-ghost use Prim.Native.Nat.{_+_, _*_, _<_, _≤_};
-ghost use lib.ListN.{getD};
+ghost use Prim.Native.Nat.{_<_, _≤_};
 ghost use Rattle.base.specs.Below.{anyBelow};
+ghost use Rattle.model.specs.Rules.{RV-own};
+ghost use Rattle.record_decoded.specs.Decoded.{instructionAt};
 ghost use Rattle.relation_marks.specs.Marks.{markAt};
-ghost use Rattle.judge_rules.specs.Tests.{someBefore, ownTurned, remoteTurned, releaseSplitBy, releaseSplit, bypassed, pairBroken, pairsBroken};
+ghost use Rattle.judge_rules.specs.Tests.{remoteBefore, ownTurned, remoteTurned, releaseSplitBy, releaseSplit, bypassed, pairBroken, pairsBroken};
+use record_decoded::kind::Role;
+use record_decoded::number::number_at;
 use record_decoded::position::Position;
+use record_decoded::types::InstructionNo;
 use record_decoded::types::Instructions;
+use record_decoded::types::MOST_INSTRUCTIONS;
+use record_decoded::types::OperationNo;
 use record_decoded::types::wide;
-use record_decoded::types::wide16;
 use relation_marks::table::ATOMIC;
 use relation_marks::table::BYPASS;
 use relation_marks::table::CONFLICT;
 use relation_marks::table::both;
+use relation_marks::table::either;
 use relation_marks::table::has_mark;
 use relation_places::before;
 
-// Whether, for some k below n, a + k × s is before b + k × t.
-fn some_before(
-    places: &[u8; Position::LIMIT],
-    n: usize,
-    a: usize,
-    s: usize,
-    b: usize,
-    t: usize,
-) -> bool
-    requires { ⌜ (n ≤ 255) × (a < 100000) × (b < 100000) × (s ≤ 1) × (t ≤ 1) ⌝ }
-    ensures { λ r. ⌜ r ≡ someBefore (now (places .entry)) n a s b t ⌝ }
+// The number of the RV of instruction i to its own processor.
+fn own_no(is: Instructions, i: InstructionNo) -> OperationNo
+    requires { ⌜ i .0 < 40 ⌝ }
+    ensures { λ r. ⌜ r .0 ≡ RV-own (instructionAt is (i .0)) ⌝ }
 {
-    for k in 0..n {
-        let earlier = a + k * s;
-        let later = b + k * t;
-        if before(places, earlier, later) {
+    let processors = is.processors;
+    let at = i.0;
+    let processor = wide(processors[at]);
+    number_at(is, i, Role::RV(processor))
+}
+
+// Rule 9: of one processor, LV before LV, and not the own RVs.
+fn own_turned(
+    places: &[u8; Position::LIMIT],
+    is: Instructions,
+    v: InstructionNo,
+    w: InstructionNo,
+) -> bool
+    requires { ⌜ (v .0 < 40) × (w .0 < 40) ⌝ }
+    ensures { λ r. ⌜ r ≡ ownTurned (now (places .entry)) (instructionAt is (v .0)) (instructionAt is (w .0)) ⌝ }
+{
+    let processors = is.processors;
+    let i = v.0;
+    let j = w.0;
+    let own = processors[i] == processors[j];
+    let local = before(
+        places,
+        number_at(is, v, Role::LV),
+        number_at(is, w, Role::LV),
+    );
+    let turned = before(places, own_no(is, w), own_no(is, v));
+    both(own, both(local, turned))
+}
+
+// Whether some RV of v is before that of w to the same processor.
+fn remote_before(
+    places: &[u8; Position::LIMIT],
+    processors: usize,
+    is: Instructions,
+    v: InstructionNo,
+    w: InstructionNo,
+) -> bool
+    requires { ⌜ (v .0 < 40) × (w .0 < 40) × (processors ≤ 255) ⌝ }
+    ensures { λ r. ⌜ r ≡ remoteBefore (now (places .entry)) processors (instructionAt is (v .0)) (instructionAt is (w .0)) ⌝ }
+{
+    for q in 0..processors {
+        let of_v = number_at(is, v, Role::RV(q));
+        let of_w = number_at(is, w, Role::RV(q));
+        if before(places, of_v, of_w) {
             return true;
         }
     }
     false
 }
 
-// Rule 9: LV before LV, and not the own RVs.
-fn own_turned(places: &[u8; Position::LIMIT], v: usize, w: usize, p: usize, q: usize) -> bool
-    requires { ⌜ (v < 65536) × (w < 65536) × (p < 256) × (q < 256) ⌝ }
-    ensures { λ r. ⌜ r ≡ ownTurned (now (places .entry)) v w p q ⌝ }
-{
-    let own_v = 1 + v + p;
-    let own_w = 1 + w + q;
-    let turned = both(before(places, v, w), before(places, own_w, own_v));
-    both(p == q, turned)
-}
-
 // Rule 10: some RV before the other's, and some after.
-fn remote_turned(places: &[u8; Position::LIMIT], processors: usize, v: usize, w: usize) -> bool
-    requires { ⌜ (v < 65536) × (w < 65536) × (processors ≤ 255) ⌝ }
-    ensures { λ r. ⌜ r ≡ remoteTurned (now (places .entry)) processors v w ⌝ }
+fn remote_turned(
+    places: &[u8; Position::LIMIT],
+    processors: usize,
+    is: Instructions,
+    v: InstructionNo,
+    w: InstructionNo,
+) -> bool
+    requires { ⌜ (v .0 < 40) × (w .0 < 40) × (processors ≤ 255) ⌝ }
+    ensures { λ r. ⌜ r ≡ remoteTurned (now (places .entry)) processors (instructionAt is (v .0)) (instructionAt is (w .0)) ⌝ }
 {
-    let remote_v = 1 + v;
-    let remote_w = 1 + w;
-    if some_before(places, processors, remote_v, 1, remote_w, 1) {
-        some_before(places, processors, remote_w, 1, remote_v, 1)
+    if remote_before(places, processors, is, v, w) {
+        remote_before(places, processors, is, w, v)
     } else {
         false
     }
 }
 
-// Whether operation o is no RV of v and stands after one of them and before another.
-fn splits_release(places: &[u8; Position::LIMIT], processors: usize, v: usize, o: usize) -> bool
-    requires { ⌜ (v < 65536) × (o < 65536) × (processors ≤ 255) ⌝ }
-    ensures { λ r. ⌜ r ≡ releaseSplitBy (now (places .entry)) processors v o ⌝ }
+// Whether an operation is none of the RVs of v, and stands after one of them and before another.
+fn splits_release(
+    places: &[u8; Position::LIMIT],
+    processors: usize,
+    is: Instructions,
+    v: InstructionNo,
+    operation: OperationNo,
+) -> bool
+    requires { ⌜ (v .0 < 40) × (processors ≤ 255) ⌝ }
+    ensures { λ r. ⌜ r ≡ releaseSplitBy (now (places .entry)) processors (instructionAt is (v .0)) (operation .0) ⌝ }
 {
-    let from = 1 + v;
-    let to = from + processors;
-    if both(from <= o, o < to) {
-        false
-    } else {
-        both(
-            some_before(places, processors, from, 1, o, 0),
-            some_before(places, processors, o, 0, from, 1),
-        )
+    let o = operation.0;
+    let mut after = false;
+    let mut ahead = false;
+    for q in 0..processors {
+        let rv = number_at(is, v, Role::RV(q));
+        if rv.0 == o {
+            return false;
+        }
+        after = either(after, before(places, rv, operation));
+        ahead = either(ahead, before(places, operation, rv));
     }
+    both(after, ahead)
 }
 
 // Rule 12: whether some operation splits the RVs of v.
@@ -85,13 +125,14 @@ fn release_split(
     places: &[u8; Position::LIMIT],
     operations: usize,
     processors: usize,
-    v: usize,
+    is: Instructions,
+    v: InstructionNo,
 ) -> bool
-    requires { ⌜ (v < 65536) × (operations ≤ 65536) × (processors ≤ 255) ⌝ }
-    ensures { λ r. ⌜ r ≡ releaseSplit (now (places .entry)) operations processors v ⌝ }
+    requires { ⌜ (v .0 < 40) × (processors ≤ 255) ⌝ }
+    ensures { λ r. ⌜ r ≡ releaseSplit (now (places .entry)) operations processors (instructionAt is (v .0)) ⌝ }
 {
     for o in 0..operations {
-        if splits_release(places, processors, v, o) {
+        if splits_release(places, processors, is, v, OperationNo(o)) {
             return true;
         }
     }
@@ -99,54 +140,59 @@ fn release_split(
 }
 
 // Rule 14: LV, then R, then the own RV.
-fn bypassed(places: &[u8; Position::LIMIT], v: usize, w: usize, p: usize) -> bool
-    requires { ⌜ (v < 65536) × (p < 256) ⌝ }
-    ensures { λ r. ⌜ r ≡ bypassed (now (places .entry)) v w p ⌝ }
+fn bypassed(
+    places: &[u8; Position::LIMIT],
+    is: Instructions,
+    v: InstructionNo,
+    w: InstructionNo,
+) -> bool
+    requires { ⌜ (v .0 < 40) × (w .0 < 40) ⌝ }
+    ensures { λ r. ⌜ r ≡ bypassed (now (places .entry)) (instructionAt is (v .0)) (instructionAt is (w .0)) ⌝ }
 {
-    let own = 1 + v + p;
-    both(before(places, v, w), before(places, w, own))
+    let reads = number_at(is, w, Role::R);
+    let local = before(places, number_at(is, v, Role::LV), reads);
+    both(local, before(places, reads, own_no(is, v)))
 }
 
-// Whether two instructions, by their marks, first operations and processors, break the rule.
+// Whether two instructions, by their marks, break the rule.
 fn pair_broken(
     rule: u8,
     marks: u16,
     operations: usize,
     processors: usize,
-    v: usize,
-    w: usize,
-    p: usize,
-    q: usize,
+    is: Instructions,
+    v: InstructionNo,
+    w: InstructionNo,
     places: &[u8; Position::LIMIT],
 ) -> bool
-    requires { ⌜ (v < 65536) × (w < 65536) × (p < 256) × (q < 256) × (operations ≤ 65536) × (processors ≤ 255) ⌝ }
-    ensures { λ r. ⌜ r ≡ pairBroken (now (places .entry)) rule marks operations processors v w p q ⌝ }
+    requires { ⌜ (v .0 < 40) × (w .0 < 40) × (processors ≤ 255) ⌝ }
+    ensures { λ r. ⌜ r ≡ pairBroken (now (places .entry)) rule marks operations processors (instructionAt is (v .0)) (instructionAt is (w .0)) ⌝ }
 {
     match rule {
         9 => {
             if has_mark(marks, CONFLICT) {
-                own_turned(places, v, w, p, q)
+                own_turned(places, is, v, w)
             } else {
                 false
             }
         }
         10 => {
             if has_mark(marks, CONFLICT) {
-                remote_turned(places, processors, v, w)
+                remote_turned(places, processors, is, v, w)
             } else {
                 false
             }
         }
         12 => {
             if has_mark(marks, ATOMIC) {
-                release_split(places, operations, processors, v)
+                release_split(places, operations, processors, is, v)
             } else {
                 false
             }
         }
         14 => {
             if has_mark(marks, BYPASS) {
-                bypassed(places, v, w, p)
+                bypassed(places, is, v, w)
             } else {
                 false
             }
@@ -159,32 +205,27 @@ fn pair_broken(
 fn pairs_broken_with(
     rule: u8,
     is: Instructions,
-    marks: &[[u16; 40]; 40],
+    marks: &[[u16; MOST_INSTRUCTIONS]; MOST_INSTRUCTIONS],
     operations: usize,
     processors: usize,
-    i: usize,
+    i: InstructionNo,
     places: &[u8; Position::LIMIT],
 ) -> bool
-    requires { ⌜ (is .count ≤ 40) × (i < 40) × (operations ≤ 65536) × (processors ≤ 255) ⌝ }
-    ensures { λ r. ⌜ r ≡ anyBelow (is .count) (λ j. pairBroken (now (places .entry)) rule (markAt (now (marks .entry)) i j) operations processors (getD (is .firsts) i 0) (getD (is .firsts) j 0) (getD (is .processors) i 0) (getD (is .processors) j 0)) ⌝ }
+    requires { ⌜ (is .count ≤ 40) × (i .0 < 40) × (processors ≤ 255) ⌝ }
+    ensures { λ r. ⌜ r ≡ anyBelow (is .count) (λ j. pairBroken (now (places .entry)) rule (markAt (now (marks .entry)) (i .0) j) operations processors (instructionAt is (i .0)) (instructionAt is j)) ⌝ }
 {
     let n = is.count;
-    let firsts = is.firsts;
-    let owners = is.processors;
-    let v = wide16(firsts[i]);
-    let p = wide(owners[i]);
+    let v = i.0;
     for j in 0..n {
-        let w = wide16(firsts[j]);
-        let q = wide(owners[j]);
+        let between = marks[v][j];
         if pair_broken(
             rule,
-            marks[i][j],
+            between,
             operations,
             processors,
-            v,
-            w,
-            p,
-            q,
+            is,
+            i,
+            InstructionNo(j),
             places,
         ) {
             return true;
@@ -197,17 +238,25 @@ fn pairs_broken_with(
 pub fn pairs_broken(
     rule: u8,
     is: Instructions,
-    marks: &[[u16; 40]; 40],
+    marks: &[[u16; MOST_INSTRUCTIONS]; MOST_INSTRUCTIONS],
     operations: usize,
     processors: usize,
     places: &[u8; Position::LIMIT],
 ) -> bool
-    requires { ⌜ (is .count ≤ 40) × (operations ≤ 65536) × (processors ≤ 255) ⌝ }
+    requires { ⌜ (is .count ≤ 40) × (processors ≤ 255) ⌝ }
     ensures { λ r. ⌜ r ≡ pairsBroken (now (places .entry)) rule is (now (marks .entry)) operations processors ⌝ }
 {
     let n = is.count;
     for i in 0..n {
-        if pairs_broken_with(rule, is, marks, operations, processors, i, places) {
+        if pairs_broken_with(
+            rule,
+            is,
+            marks,
+            operations,
+            processors,
+            InstructionNo(i),
+            places,
+        ) {
             return true;
         }
     }

@@ -13,7 +13,7 @@ use Rattle.base.specs.Fold.{fold}
 use Rattle.base.proofs.Lists.{any-append, any-one, any-keep, any-map, any-for, count-more, keep-keep, keep-same, keep-map, map-map}
 use Rattle.base.proofs.Tests.{any-numbered, any-below, any-below-same}
 use Rattle.model.specs.Execution as model
-use Rattle.model.specs.Execution.{isLoad, isStore, initialByte, loads, stores}
+use Rattle.model.specs.Execution.{isLoad, isStore, LV, RV, numberOf, initialByte, loads, stores}
 use Rattle.model.specs.Rules.{Sight, Writer, sees, accesses, addresses, before, latest, local, byteRead, sightOf, rule11, broken}
 use Rattle.record_decoded.specs.declared.types.Instructions.{Instructions}
 use Rattle.record_decoded.specs.declared.types.Execution.{Execution}
@@ -21,7 +21,7 @@ use Rattle.record_decoded.specs.Decoded.{instructionAt, instructionsOf, executi
 use Rattle.relation_places.specs.Places.{placed, Placed}
 use Rattle.relation_places.proofs.PlaceLaws.{before-placed, member-placed}
 use Rattle.judge_sights.specs.declared.Latest.{Latest}
-use Rattle.judge_sights.specs.Sights.{initialOf, dataByte, writesTo, sameProcessor, firstOf, remoteTo, mayGive, visibleBy, makesLocal, localBy, laterBy, latestWith, latestBy, readBy, sightBroken, loadBroken}
+use Rattle.judge_sights.specs.Sights.{initialOf, dataByte, writesTo, sameProcessor, readNo, localNo, remoteNo, mayGive, visibleBy, makesLocal, localBy, laterBy, latestWith, latestBy, readBy, sightBroken, loadBroken}
 use Rattle.judge_sights.proofs.LatestLaws.{latest-nothing, latest-more}
 
 -- The stores to a byte, by their numbers
@@ -38,8 +38,8 @@ module _ (is : Instructions) (load address : ℕ) where
   writerAt : ℕ → Writer
   writerAt w = record {
     own = sameProcessor is load w;
-    lv = firstOf is w;
-    rv = remoteTo is load w;
+    lv = localNo is w;
+    rv = remoteNo is load w;
     wrote = dataByte is w (address - instructionAt is w .address);
   }
 
@@ -61,7 +61,7 @@ module _ (is : Instructions) (load address : ℕ) where
   unfolding writers entries writerAt mayGive visibleBy
   entries-remote ks =
       map-map (λ w. (w .rv, w .wrote)) writerAt (keep (writesTo is address) ks)
-      ∙ ap (map (λ w. (remoteTo is load w, dataByte is w (address - instructionAt is w .address))))
+      ∙ ap (map (λ w. (remoteNo is load w, dataByte is w (address - instructionAt is w .address))))
       (keep-same (writesTo is address) (λ w. writesTo is address w && true) (λ w. sym (and-true (writesTo is address w))) ks)
 
 module _ (x : Execution) (load address : ℕ) where
@@ -70,25 +70,25 @@ module _ (x : Execution) (load address : ℕ) where
   sight = sightOf (executionOf x) (instructionAt (x .instructions) load) address
 
   sight-writers : sight .writers ≡ writers (x .instructions) load address (below (x .instructions .count))
-  unfolding sight sightOf executionOf instructionsOf stores writers writerAt writesTo sameProcessor firstOf remoteTo dataByte
+  unfolding sight sightOf executionOf instructionsOf stores writers writerAt writesTo sameProcessor localNo remoteNo dataByte
   sight-writers =
       ap (map (λ w. record {
         own = eqb (w .processor) (instructionAt (x .instructions) load .processor);
-        lv = w .first;
-        rv = suc (w .first) + instructionAt (x .instructions) load .processor;
+        lv = numberOf w LV;
+        rv = numberOf w (RV (instructionAt (x .instructions) load .processor));
         wrote = getD (w .bytes) (address - w .address) 0;
       }))
       (keep-keep (λ w. accesses w address) (λ w. isStore (w .kind)) (map (instructionAt (x .instructions)) (below (x .instructions .count)))
       ∙ keep-map (λ w. isStore (w .kind) && accesses w address) (instructionAt (x .instructions)) (below (x .instructions .count)))
       ∙ map-map (λ w. record {
         own = eqb (w .processor) (instructionAt (x .instructions) load .processor);
-        lv = w .first;
-        rv = suc (w .first) + instructionAt (x .instructions) load .processor;
+        lv = numberOf w LV;
+        rv = numberOf w (RV (instructionAt (x .instructions) load .processor));
         wrote = getD (w .bytes) (address - w .address) 0;
       }) (instructionAt (x .instructions)) (keep (writesTo (x .instructions) address) (below (x .instructions .count)))
 
-  sight-reads : sight .reads ≡ firstOf (x .instructions) load
-  unfolding sight sightOf firstOf
+  sight-reads : sight .reads ≡ readNo (x .instructions) load
+  unfolding sight sightOf readNo
   sight-reads = refl
 
   sight-initial : sight .initial ≡ initialOf (x .lines) address
@@ -107,23 +107,23 @@ sight-seen x load k =
 module _ {n : ℕ} {xs places : List ℕ} (h : Placed n xs places) where
   -- one store more, taken in
   module _ (is : Instructions) (load address : ℕ) (b : Bool) where
-    next-within : (w : ℕ) (l : Latest) → l .next ≤ placed places (firstOf is load) → latestWith is places load address b w l .next ≤ placed places (firstOf is load)
+    next-within : (w : ℕ) (l : Latest) → l .next ≤ placed places (readNo is load) → latestWith is places load address b w l .next ≤ placed places (readNo is load)
     unfolding latestWith laterBy
-    next-within w l m = go (mayGive is load address b w) (ltb (placed places (visibleBy is load b w)) (placed places (firstOf is load))) (leb (l .next) (placed places (visibleBy is load b w))) refl
+    next-within w l m = go (mayGive is load address b w) (ltb (placed places (visibleBy is load b w)) (placed places (readNo is load))) (leb (l .next) (placed places (visibleBy is load b w))) refl
       where
         later : Latest
         later = record { next = placed places (visibleBy is load b w) + 1; value = dataByte is w (address - instructionAt is w .address) }
 
-        go : (g s t : Bool) → ltb (placed places (visibleBy is load b w)) (placed places (firstOf is load)) ≡ s
-            → cond (g && (s && t)) later l .next ≤ placed places (firstOf is load)
+        go : (g s t : Bool) → ltb (placed places (visibleBy is load b w)) (placed places (readNo is load)) ≡ s
+            → cond (g && (s && t)) later l .next ≤ placed places (readNo is load)
         go false s t e = m
         go true false t e = m
         go true true false e = m
-        go true true true e = omega (arith, ltb-true (placed places (visibleBy is load b w)) (placed places (firstOf is load)) e)
+        go true true true e = omega (arith, ltb-true (placed places (visibleBy is load b w)) (placed places (readNo is load)) e)
 
-    latest-in : (w : ℕ) (ks : List ℕ) (l : Latest) → l .next ≤ placed places (firstOf is load)
-        → latest (entries is load address b (w ∷ ks)) (firstOf is load) (l .value) (drop (l .next) xs)
-        ≡ latest (entries is load address b ks) (firstOf is load) (latestWith is places load address b w l .value) (drop (latestWith is places load address b w l .next) xs)
+    latest-in : (w : ℕ) (ks : List ℕ) (l : Latest) → l .next ≤ placed places (readNo is load)
+        → latest (entries is load address b (w ∷ ks)) (readNo is load) (l .value) (drop (l .next) xs)
+        ≡ latest (entries is load address b ks) (readNo is load) (latestWith is places load address b w l .value) (drop (latestWith is places load address b w l .next) xs)
     unfolding entries keep latestWith laterBy
     latest-in w ks l m = go (mayGive is load address b w)
       where
@@ -134,42 +134,42 @@ module _ {n : ℕ} {xs places : List ℕ} (h : Placed n xs places) where
         rest = keep (mayGive is load address b) ks
 
         test : Bool
-        test = ltb (placed places (visibleBy is load b w)) (placed places (firstOf is load)) && leb (l .next) (placed places (visibleBy is load b w))
+        test = ltb (placed places (visibleBy is load b w)) (placed places (readNo is load)) && leb (l .next) (placed places (visibleBy is load b w))
 
         later : Latest
         later = record { next = placed places (visibleBy is load b w) + 1; value = dataByte is w (address - instructionAt is w .address) }
 
         given : (t : Bool)
-            → cond t (latest (map entry rest) (firstOf is load) (later .value) (drop (later .next) xs)) (latest (map entry rest) (firstOf is load) (l .value) (drop (l .next) xs))
-            ≡ latest (map entry rest) (firstOf is load) (cond t later l .value) (drop (cond t later l .next) xs)
+            → cond t (latest (map entry rest) (readNo is load) (later .value) (drop (later .next) xs)) (latest (map entry rest) (readNo is load) (l .value) (drop (l .next) xs))
+            ≡ latest (map entry rest) (readNo is load) (cond t later l .value) (drop (cond t later l .next) xs)
         given true = refl
         given false = refl
 
         go : (g : Bool)
-            → latest (map entry (cond g (w ∷ rest) rest)) (firstOf is load) (l .value) (drop (l .next) xs)
-            ≡ latest (map entry rest) (firstOf is load) (cond (g && test) later l .value) (drop (cond (g && test) later l .next) xs)
+            → latest (map entry (cond g (w ∷ rest) rest)) (readNo is load) (l .value) (drop (l .next) xs)
+            ≡ latest (map entry rest) (readNo is load) (cond (g && test) later l .value) (drop (cond (g && test) later l .next) xs)
         go true =
-            latest-more h (map entry rest) (firstOf is load) (visibleBy is load b w) (dataByte is w (address - instructionAt is w .address)) (l .value) (l .next) m
+            latest-more h (map entry rest) (readNo is load) (visibleBy is load b w) (dataByte is w (address - instructionAt is w .address)) (l .value) (l .next) m
             ∙ given test
         go false = refl
 
-    latest-end : (l : Latest) → latest (entries is load address b []) (firstOf is load) (l .value) (drop (l .next) xs) ≡ l .value
+    latest-end : (l : Latest) → latest (entries is load address b []) (readNo is load) (l .value) (drop (l .next) xs) ≡ l .value
     unfolding entries keep
-    latest-end l = latest-nothing (firstOf is load) (l .value) (drop (l .next) xs)
+    latest-end l = latest-nothing (readNo is load) (l .value) (drop (l .next) xs)
 
     -- the stores from i on, taken in
     latest-rest : (step : ℕ → Latest) → ((k : ℕ) → step (suc k) ≡ latestWith is places load address b k (step k))
-        → (m i : ℕ) → step i .next ≤ placed places (firstOf is load)
-        → latest (entries is load address b (count i m)) (firstOf is load) (step i .value) (drop (step i .next) xs) ≡ step (i + m) .value
+        → (m i : ℕ) → step i .next ≤ placed places (readNo is load)
+        → latest (entries is load address b (count i m)) (readNo is load) (step i .value) (drop (step i .next) xs) ≡ step (i + m) .value
     unfolding count
     latest-rest step e zero i f = latest-end (step i) ∙ ap (λ (k : ℕ). step k .value) (let z : i ≡ i + 0 = omega arith in z)
     latest-rest step e (suc m) i f =
         latest-in i (count (suc i) m) (step i) f
-        ∙ ap (λ (l : Latest). latest (entries is load address b (count (suc i) m)) (firstOf is load) (l .value) (drop (l .next) xs)) (sym (e i))
-        ∙ latest-rest step e m (suc i) (subst (λ (l : Latest). l .next ≤ placed places (firstOf is load)) (sym (e i)) (next-within i (step i) f))
+        ∙ ap (λ (l : Latest). latest (entries is load address b (count (suc i) m)) (readNo is load) (l .value) (drop (l .next) xs)) (sym (e i))
+        ∙ latest-rest step e m (suc i) (subst (λ (l : Latest). l .next ≤ placed places (readNo is load)) (sym (e i)) (next-within i (step i) f))
         ∙ ap (λ (k : ℕ). step k .value) (let z : suc i + m ≡ i + suc m = omega arith in z)
 
-    latest-all : (initial : ℕ) → latest (entries is load address b (below (is .count))) (firstOf is load) initial xs ≡ latestBy is places load address b initial
+    latest-all : (initial : ℕ) → latest (entries is load address b (below (is .count))) (readNo is load) initial xs ≡ latestBy is places load address b initial
     unfolding latestBy below fold
     latest-all initial =
         latest-rest (λ k. fold k (latestWith is places load address b) (record { next = 0; value = initial })) (λ k. refl) (is .count) 0 (omega arith)
@@ -178,18 +178,18 @@ module _ {n : ℕ} {xs places : List ℕ} (h : Placed n xs places) where
   -- the load is local
   module _ (x : Execution) (load address : ℕ) where
     localTest : Writer → Bool
-    localTest w = w .own && (before xs (w .lv) (firstOf (x .instructions) load) && before xs (firstOf (x .instructions) load) (w .rv))
+    localTest w = w .own && (before xs (w .lv) (readNo (x .instructions) load) && before xs (readNo (x .instructions) load) (w .rv))
 
     local-test : local xs (sight x load address) ≡ any localTest (sight x load address .writers)
-    unfolding local sight sightOf localTest firstOf
+    unfolding local sight sightOf localTest readNo
     local-test = refl
 
     local-at : (w : ℕ) → (writesTo (x .instructions) address w && localTest (writerAt (x .instructions) load address w)) ≡ makesLocal (x .instructions) places load address w
     unfolding localTest writerAt makesLocal
     local-at w =
         ap₂ (λ (s t : Bool). writesTo (x .instructions) address w && (sameProcessor (x .instructions) load w && (s && t)))
-        (before-placed h (firstOf (x .instructions) w) (firstOf (x .instructions) load))
-        (before-placed h (firstOf (x .instructions) load) (remoteTo (x .instructions) load w))
+        (before-placed h (localNo (x .instructions) w) (readNo (x .instructions) load))
+        (before-placed h (readNo (x .instructions) load) (remoteNo (x .instructions) load w))
 
     local-by : local xs (sight x load address) ≡ localBy (x .instructions) places load address
     unfolding writers localBy
@@ -210,8 +210,8 @@ module _ {n : ℕ} {xs places : List ℕ} (h : Placed n xs places) where
       where
         go : (b : Bool)
             → cond b
-            (latest (map (λ w. (w .lv, w .wrote)) (keep (λ w. w .own) (writers (x .instructions) load address (below (x .instructions .count))))) (firstOf (x .instructions) load) (initialOf (x .lines) address) xs)
-            (latest (map (λ w. (w .rv, w .wrote)) (writers (x .instructions) load address (below (x .instructions .count)))) (firstOf (x .instructions) load) (initialOf (x .lines) address) xs)
+            (latest (map (λ w. (w .lv, w .wrote)) (keep (λ w. w .own) (writers (x .instructions) load address (below (x .instructions .count))))) (readNo (x .instructions) load) (initialOf (x .lines) address) xs)
+            (latest (map (λ w. (w .rv, w .wrote)) (writers (x .instructions) load address (below (x .instructions .count)))) (readNo (x .instructions) load) (initialOf (x .lines) address) xs)
             ≡ latestBy (x .instructions) places load address b (initialOf (x .lines) address)
         go true =
             rw (entries-local (x .instructions) load address (below (x .instructions .count)))
@@ -225,7 +225,7 @@ module _ {n : ℕ} {xs places : List ℕ} (h : Placed n xs places) where
   unfolding broken sightBroken
   sight-by x load k =
       ap₂ (λ (s t : Bool). s && not t)
-      (ap (member xs) (sight-reads x load (instructionAt (x .instructions) load .address + k)) ∙ member-placed h (firstOf (x .instructions) load))
+      (ap (member xs) (sight-reads x load (instructionAt (x .instructions) load .address + k)) ∙ member-placed h (readNo (x .instructions) load))
       (ap₂ eqb (read-by x load (instructionAt (x .instructions) load .address + k)) (sight-seen x load k))
 
   -- the bytes of a load

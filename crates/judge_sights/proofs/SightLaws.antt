@@ -20,7 +20,7 @@ use Rattle.record_decoded.specs.Decoded.{eight, decodedLine, linesOf, instructi
 use Rattle.record_decoded.proofs.Arrays.{lines-length}
 use Rattle.relation_places.specs.Places.{placed}
 use Rattle.judge_sights.specs.declared.Latest.{Latest}
-use Rattle.judge_sights.specs.Sights.{initialOf, dataByte, writesTo, sameProcessor, firstOf, remoteTo, makesLocal, mayGive, visibleBy, laterBy, latestWith, readBy, sightBroken, loadBroken}
+use Rattle.judge_sights.specs.Sights.{initialOf, dataByte, writesTo, sameProcessor, readNo, localNo, remoteNo, makesLocal, mayGive, visibleBy, laterBy, latestWith, readBy, sightBroken, loadBroken}
 
 -- the initial byte of an address past the lines, and of one in them
 module _ (x : Lines) (address : ℕ) where
@@ -84,7 +84,7 @@ module _ (is : Instructions) (places : List ℕ) (load address : ℕ) (local : B
   unfolding latestWith
   latest-none h = rw h
 
-  module _ (p r : ℕ) (p-is : p ≡ placed places (visibleBy is load local w)) (r-is : r ≡ placed places (firstOf is load)) where
+  module _ (p r : ℕ) (p-is : p ≡ placed places (visibleBy is load local w)) (r-is : r ≡ placed places (readNo is load)) where
     pub latest-past : r ≤ p → latest ≡ latestWith is places load address local w latest
     unfolding latestWith laterBy
     latest-past h = rw (← p-is, ← r-is, le-ltb p r h, and-false (mayGive is load address local w))
@@ -118,19 +118,19 @@ module _ (is : Instructions) (places : List ℕ) (load address w : ℕ) where
   unfolding makesLocal
   local-other h = rw h (sym (and-false (writesTo is address w)))
 
-  module _ (lv r : ℕ) (lv-is : lv ≡ firstOf is w) (r-is : r ≡ firstOf is load) where
+  module _ (lv r : ℕ) (lv-is : lv ≡ localNo is w) (r-is : r ≡ readNo is load) where
     pub local-late : ltb (placed places lv) (placed places r) ≡ false → false ≡ makesLocal is places load address w
     unfolding makesLocal
     local-late h =
         rw (← lv-is, ← r-is, h, and-false (sameProcessor is load w)) (sym (and-false (writesTo is address w)))
 
     pub local-is : writesTo is address w ≡ true → sameProcessor is load w ≡ true → ltb (placed places lv) (placed places r) ≡ true
-        → (rv : ℕ) → rv ≡ remoteTo is load w → ltb (placed places r) (placed places rv) ≡ makesLocal is places load address w
+        → (rv : ℕ) → rv ≡ remoteNo is load w → ltb (placed places r) (placed places rv) ≡ makesLocal is places load address w
     unfolding makesLocal
     local-is h k l rv rv-is = rw (← lv-is, ← r-is, ← rv-is, h, k, l)
 
 -- one byte of a load
-module _ (x : Execution) (places : List ℕ) (load k p : ℕ) (p-is : p ≡ placed places (firstOf (x .instructions) load)) where
+module _ (x : Execution) (places : List ℕ) (load k p : ℕ) (p-is : p ≡ placed places (readNo (x .instructions) load)) where
   pub sight-absent : 255 ≤ p → false ≡ sightBroken x places load k
   unfolding sightBroken
   sight-absent h = rw (← p-is, le-ltb p 255 h)

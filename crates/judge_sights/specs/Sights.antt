@@ -1,12 +1,12 @@
 -- Rule 11 for one byte of a load, from the decoded arrays and a table of places.
-use Prim.Native.Nat.{ℕ, suc, _+_, _-_, _/_, _%_}
+use Prim.Native.Nat.{ℕ, _+_, _-_, _/_, _%_}
 use mathlib.Core.Bool.{Bool, not, cond, _&&_, _||_}
 use mathlib.Core.List.{List}
 use lib.ListN.{getD}
 use lib.Dec.{eqb, leb, ltb}
 use Rattle.base.specs.Below.{anyBelow}
 use Rattle.base.specs.Fold.{fold}
-use Rattle.model.specs.Execution.{noLine, isLoad, isStore}
+use Rattle.model.specs.Execution.{noLine, isLoad, isStore, R, LV, RV, numberOf}
 use Rattle.model.specs.Rules.{accesses}
 use Rattle.record_decoded.specs.declared.types.Lines.{Lines}
 use Rattle.record_decoded.specs.declared.types.Instructions.{Instructions}
@@ -32,13 +32,15 @@ module _ (is : Instructions) where
   unfoldable pub sameProcessor : ℕ → ℕ → Bool
   sameProcessor load w = eqb (instructionAt is w .processor) (instructionAt is load .processor)
 
-  -- the number of a load's R or a store's LV
-  unfoldable pub firstOf : ℕ → ℕ
-  firstOf i = instructionAt is i .first
+  -- the numbers of a load's R, of a store's LV, and of a store's RV to the load's processor
+  unfoldable pub readNo : ℕ → ℕ
+  readNo load = numberOf (instructionAt is load) R
 
-  -- the number of a store's RV to the load's processor
-  unfoldable pub remoteTo : ℕ → ℕ → ℕ
-  remoteTo load w = suc (instructionAt is w .first) + instructionAt is load .processor
+  unfoldable pub localNo : ℕ → ℕ
+  localNo w = numberOf (instructionAt is w) LV
+
+  unfoldable pub remoteNo : ℕ → ℕ → ℕ
+  remoteNo load w = numberOf (instructionAt is w) (RV (instructionAt is load .processor))
 
   -- store w may give the load its byte: a local load takes none but its own processor's
   unfoldable pub mayGive : ℕ → ℕ → Bool → ℕ → Bool
@@ -46,7 +48,7 @@ module _ (is : Instructions) where
 
   -- the operation that makes store w visible to the load
   unfoldable pub visibleBy : ℕ → Bool → ℕ → ℕ
-  visibleBy load local w = cond local (firstOf w) (remoteTo load w)
+  visibleBy load local w = cond local (localNo w) (remoteNo load w)
 
 module _ (is : Instructions) (places : List ℕ) (load address : ℕ) where
   -- store w makes the load local: it is its own processor's, LV before R before RV
@@ -54,15 +56,15 @@ module _ (is : Instructions) (places : List ℕ) (load address : ℕ) where
   makesLocal w =
       writesTo is address w
       && (sameProcessor is load w
-      && (ltb (placed places (firstOf is w)) (placed places (firstOf is load))
-      && ltb (placed places (firstOf is load)) (placed places (remoteTo is load w))))
+      && (ltb (placed places (localNo is w)) (placed places (readNo is load))
+      && ltb (placed places (readNo is load)) (placed places (remoteNo is load w))))
 
   unfoldable pub localBy : Bool
   localBy = anyBelow (is .count) makesLocal
 
   -- the operation at `place` stands before R, and not before `next`
   unfoldable pub laterBy : ℕ → ℕ → Bool
-  laterBy place next = ltb place (placed places (firstOf is load)) && leb next place
+  laterBy place next = ltb place (placed places (readNo is load)) && leb next place
 
   -- the latest before R, one store more
   unfoldable pub latestWith : Bool → ℕ → Latest → Latest
@@ -84,7 +86,7 @@ module _ (x : Execution) (places : List ℕ) (load : ℕ) where
   -- the load stands, and its byte k is another
   unfoldable pub sightBroken : ℕ → Bool
   sightBroken k =
-      ltb (placed places (firstOf (x .instructions) load)) 255
+      ltb (placed places (readNo (x .instructions) load)) 255
       && not (eqb (readBy (instructionAt (x .instructions) load .address + k)) (dataByte (x .instructions) load k))
 
   -- some byte is another

@@ -7,16 +7,20 @@ ghost use Rattle.base.specs.Lists.{any};
 ghost use Rattle.model.specs.Rules.{rule11, broken};
 ghost use Rattle.record_decoded.specs.Decoded.{executionOf};
 ghost use Rattle.relation_places.specs.Places.{Placed};
-ghost use Rattle.judge_sights.specs.Sights.{initialOf, dataByte, writesTo, sameProcessor, firstOf, remoteTo, mayGive, visibleBy, makesLocal, localBy, latestWith, latestBy, readBy, sightBroken, loadBroken};
+ghost use Rattle.judge_sights.specs.Sights.{initialOf, dataByte, writesTo, sameProcessor, readNo, localNo, remoteNo, mayGive, visibleBy, makesLocal, localBy, latestWith, latestBy, readBy, sightBroken, loadBroken};
+use record_decoded::kind::Role;
 use record_decoded::kind::is_load;
 use record_decoded::kind::is_store;
 use record_decoded::kind::kind_of;
+use record_decoded::number::number_at;
 use record_decoded::position::Position;
+use record_decoded::types::DATA_STRIDE;
 use record_decoded::types::Execution;
+use record_decoded::types::InstructionNo;
 use record_decoded::types::Instructions;
 use record_decoded::types::Lines;
+use record_decoded::types::OperationNo;
 use record_decoded::types::wide;
-use record_decoded::types::wide16;
 use relation_places::ABSENT;
 use relation_places::before;
 use relation_places::place_of;
@@ -40,67 +44,78 @@ fn initial_byte(lines: Lines, address: usize) -> u8
 }
 
 // Byte k of what instruction i saw or wrote.
-fn data_byte(is: Instructions, i: usize, k: usize) -> u8
-    requires { ⌜ i < 40 ⌝ }
-    ensures { λ r. ⌜ r ≡ dataByte is i k ⌝ }
+fn data_byte(is: Instructions, i: InstructionNo, k: usize) -> u8
+    requires { ⌜ i .0 < 40 ⌝ }
+    ensures { λ r. ⌜ r ≡ dataByte is (i .0) k ⌝ }
 {
     let sizes = is.sizes;
-    let size = wide(sizes[i]);
+    let at = i.0;
+    let size = wide(sizes[at]);
     if size <= k {
         return 0;
     }
-    if 8 <= k {
+    if DATA_STRIDE <= k {
         return 0;
     }
     let bytes = is.bytes;
-    bytes[8 * i + k]
+    bytes[DATA_STRIDE * at + k]
 }
 
 // The first address that instruction i accesses.
-fn address_of(is: Instructions, i: usize) -> usize
-    requires { ⌜ i < 40 ⌝ }
-    ensures { λ r. ⌜ (r ≡ getD (is .addresses) i 0) × (r < 256) ⌝ }
+fn address_of(is: Instructions, i: InstructionNo) -> usize
+    requires { ⌜ i .0 < 40 ⌝ }
+    ensures { λ r. ⌜ (r ≡ getD (is .addresses) (i .0) 0) × (r < 256) ⌝ }
 {
     let addresses = is.addresses;
-    wide(addresses[i])
+    let at = i.0;
+    wide(addresses[at])
 }
 
 // How many addresses instruction i accesses.
-fn size_of(is: Instructions, i: usize) -> usize
-    requires { ⌜ i < 40 ⌝ }
-    ensures { λ r. ⌜ (r ≡ getD (is .sizes) i 0) × (r < 256) ⌝ }
+fn size_of(is: Instructions, i: InstructionNo) -> usize
+    requires { ⌜ i .0 < 40 ⌝ }
+    ensures { λ r. ⌜ (r ≡ getD (is .sizes) (i .0) 0) × (r < 256) ⌝ }
 {
     let sizes = is.sizes;
-    wide(sizes[i])
+    let at = i.0;
+    wide(sizes[at])
 }
 
-// The number of instruction i's first operation: a load's R, a store's LV.
-fn first_of(is: Instructions, i: usize) -> usize
-    requires { ⌜ i < 40 ⌝ }
-    ensures { λ r. ⌜ (r ≡ firstOf is i) × (r < 65536) ⌝ }
+// The number of the load's R.
+fn read_no(is: Instructions, load: InstructionNo) -> OperationNo
+    requires { ⌜ load .0 < 40 ⌝ }
+    ensures { λ r. ⌜ r .0 ≡ readNo is (load .0) ⌝ }
 {
-    let firsts = is.firsts;
-    wide16(firsts[i])
+    number_at(is, load, Role::R)
+}
+
+// The number of store w's LV.
+fn local_no(is: Instructions, w: InstructionNo) -> OperationNo
+    requires { ⌜ w .0 < 40 ⌝ }
+    ensures { λ r. ⌜ r .0 ≡ localNo is (w .0) ⌝ }
+{
+    number_at(is, w, Role::LV)
 }
 
 // The number of store w's RV to the load's processor.
-fn remote_to(is: Instructions, w: usize, load: usize) -> usize
-    requires { ⌜ (w < 40) × (load < 40) ⌝ }
-    ensures { λ r. ⌜ r ≡ remoteTo is load w ⌝ }
+fn remote_no(is: Instructions, w: InstructionNo, load: InstructionNo) -> OperationNo
+    requires { ⌜ (w .0 < 40) × (load .0 < 40) ⌝ }
+    ensures { λ r. ⌜ r .0 ≡ remoteNo is (load .0) (w .0) ⌝ }
 {
     let processors = is.processors;
-    let p = wide(processors[load]);
-    let first = first_of(is, w);
-    first + 1 + p
+    let at = load.0;
+    let processor = wide(processors[at]);
+    number_at(is, w, Role::RV(processor))
 }
 
 // Whether instruction w is a store to the byte at an address.
-fn writes_to(is: Instructions, w: usize, address: usize) -> bool
-    requires { ⌜ w < 40 ⌝ }
-    ensures { λ r. ⌜ r ≡ writesTo is address w ⌝ }
+fn writes_to(is: Instructions, w: InstructionNo, address: usize) -> bool
+    requires { ⌜ w .0 < 40 ⌝ }
+    ensures { λ r. ⌜ r ≡ writesTo is address (w .0) ⌝ }
 {
     let kinds = is.kinds;
-    let kind = kind_of(kinds[w]);
+    let at = w.0;
+    let kind = kind_of(kinds[at]);
     if !is_store(kind) {
         return false;
     }
@@ -113,24 +128,26 @@ fn writes_to(is: Instructions, w: usize, address: usize) -> bool
 }
 
 // Whether instruction w is of the load's processor.
-fn own_of(is: Instructions, w: usize, load: usize) -> bool
-    requires { ⌜ (w < 40) × (load < 40) ⌝ }
-    ensures { λ r. ⌜ r ≡ sameProcessor is load w ⌝ }
+fn own_of(is: Instructions, w: InstructionNo, load: InstructionNo) -> bool
+    requires { ⌜ (w .0 < 40) × (load .0 < 40) ⌝ }
+    ensures { λ r. ⌜ r ≡ sameProcessor is (load .0) (w .0) ⌝ }
 {
     let processors = is.processors;
-    processors[w] == processors[load]
+    let a = w.0;
+    let b = load.0;
+    processors[a] == processors[b]
 }
 
 // Whether store w makes the load local for the byte.
 fn makes_local(
     is: Instructions,
     places: &[u8; Position::LIMIT],
-    w: usize,
-    load: usize,
+    w: InstructionNo,
+    load: InstructionNo,
     address: usize,
 ) -> bool
-    requires { ⌜ (w < 40) × (load < 40) ⌝ }
-    ensures { λ r. ⌜ r ≡ makesLocal is (now (places .entry)) load address w ⌝ }
+    requires { ⌜ (w .0 < 40) × (load .0 < 40) ⌝ }
+    ensures { λ r. ⌜ r ≡ makesLocal is (now (places .entry)) (load .0) address (w .0) ⌝ }
 {
     if !writes_to(is, w, address) {
         return false;
@@ -138,20 +155,25 @@ fn makes_local(
     if !own_of(is, w, load) {
         return false;
     }
-    let reads = first_of(is, load);
-    if !before(places, first_of(is, w), reads) {
+    let reads = read_no(is, load);
+    if !before(places, local_no(is, w), reads) {
         return false;
     }
-    before(places, reads, remote_to(is, w, load))
+    before(places, reads, remote_no(is, w, load))
 }
 
 // Whether the load is local for the byte.
-fn is_local(is: Instructions, places: &[u8; Position::LIMIT], load: usize, address: usize) -> bool
-    requires { ⌜ (is .count ≤ 40) × (load < 40) ⌝ }
-    ensures { λ r. ⌜ r ≡ localBy is (now (places .entry)) load address ⌝ }
+fn is_local(
+    is: Instructions,
+    places: &[u8; Position::LIMIT],
+    load: InstructionNo,
+    address: usize,
+) -> bool
+    requires { ⌜ (is .count ≤ 40) × (load .0 < 40) ⌝ }
+    ensures { λ r. ⌜ r ≡ localBy is (now (places .entry)) (load .0) address ⌝ }
 {
     for w in 0..is.count {
-        if makes_local(is, places, w, load, address) {
+        if makes_local(is, places, InstructionNo(w), load, address) {
             return true;
         }
     }
@@ -159,9 +181,15 @@ fn is_local(is: Instructions, places: &[u8; Position::LIMIT], load: usize, addre
 }
 
 // Whether store w may give the load its byte.
-fn may_give(is: Instructions, w: usize, load: usize, address: usize, local: bool) -> bool
-    requires { ⌜ (w < 40) × (load < 40) ⌝ }
-    ensures { λ r. ⌜ r ≡ mayGive is load address local w ⌝ }
+fn may_give(
+    is: Instructions,
+    w: InstructionNo,
+    load: InstructionNo,
+    address: usize,
+    local: bool,
+) -> bool
+    requires { ⌜ (w .0 < 40) × (load .0 < 40) ⌝ }
+    ensures { λ r. ⌜ r ≡ mayGive is (load .0) address local (w .0) ⌝ }
 {
     if !writes_to(is, w, address) {
         return false;
@@ -173,34 +201,34 @@ fn may_give(is: Instructions, w: usize, load: usize, address: usize, local: bool
 }
 
 // The operation that makes store w visible to the load.
-fn visible_by(is: Instructions, w: usize, load: usize, local: bool) -> usize
-    requires { ⌜ (w < 40) × (load < 40) ⌝ }
-    ensures { λ r. ⌜ r ≡ visibleBy is load local w ⌝ }
+fn visible_by(is: Instructions, w: InstructionNo, load: InstructionNo, local: bool) -> OperationNo
+    requires { ⌜ (w .0 < 40) × (load .0 < 40) ⌝ }
+    ensures { λ r. ⌜ r .0 ≡ visibleBy is (load .0) local (w .0) ⌝ }
 {
     if local {
-        return first_of(is, w);
+        return local_no(is, w);
     }
-    remote_to(is, w, load)
+    remote_no(is, w, load)
 }
 
 // The latest before R, store w taken in.
 fn latest_with(
     is: Instructions,
     places: &[u8; Position::LIMIT],
-    w: usize,
-    load: usize,
+    w: InstructionNo,
+    load: InstructionNo,
     address: usize,
     local: bool,
     latest: Latest,
 ) -> Latest
-    requires { ⌜ (w < 40) × (load < 40) ⌝ }
-    ensures { λ r. ⌜ r ≡ latestWith is (now (places .entry)) load address local w latest ⌝ }
+    requires { ⌜ (w .0 < 40) × (load .0 < 40) ⌝ }
+    ensures { λ r. ⌜ r ≡ latestWith is (now (places .entry)) (load .0) address local (w .0) latest ⌝ }
 {
     if !may_give(is, w, load, address, local) {
         return latest;
     }
     let place = wide(place_of(places, visible_by(is, w, load, local)));
-    let reads = wide(place_of(places, first_of(is, load)));
+    let reads = wide(place_of(places, read_no(is, load)));
     if reads <= place {
         return latest;
     }
@@ -217,28 +245,33 @@ fn latest_with(
 fn latest_byte(
     is: Instructions,
     places: &[u8; Position::LIMIT],
-    load: usize,
+    load: InstructionNo,
     address: usize,
     local: bool,
     initial: u8,
 ) -> u8
-    requires { ⌜ (is .count ≤ 40) × (load < 40) ⌝ }
-    ensures { λ r. ⌜ r ≡ latestBy is (now (places .entry)) load address local initial ⌝ }
+    requires { ⌜ (is .count ≤ 40) × (load .0 < 40) ⌝ }
+    ensures { λ r. ⌜ r ≡ latestBy is (now (places .entry)) (load .0) address local initial ⌝ }
 {
     let mut latest = Latest {
         next: 0,
         value: initial,
     };
     for w in 0..is.count {
-        latest = latest_with(is, places, w, load, address, local, latest);
+        latest = latest_with(is, places, InstructionNo(w), load, address, local, latest);
     }
     latest.value
 }
 
 // The byte that the rule has the load see at an address.
-fn byte_read(x: Execution, places: &[u8; Position::LIMIT], load: usize, address: usize) -> u8
-    requires { ⌜ (x .instructions .count ≤ 40) × (x .lines .count ≤ 8) × (load < 40) ⌝ }
-    ensures { λ r. ⌜ r ≡ readBy x (now (places .entry)) load address ⌝ }
+fn byte_read(
+    x: Execution,
+    places: &[u8; Position::LIMIT],
+    load: InstructionNo,
+    address: usize,
+) -> u8
+    requires { ⌜ (x .instructions .count ≤ 40) × (x .lines .count ≤ 8) × (load .0 < 40) ⌝ }
+    ensures { λ r. ⌜ r ≡ readBy x (now (places .entry)) (load .0) address ⌝ }
 {
     let is = x.instructions;
     let local = is_local(is, places, load, address);
@@ -247,12 +280,12 @@ fn byte_read(x: Execution, places: &[u8; Position::LIMIT], load: usize, address:
 }
 
 // Whether the load stands and its byte k is not the one that the rule gives.
-fn sight_broken(x: Execution, places: &[u8; Position::LIMIT], load: usize, k: usize) -> bool
-    requires { ⌜ (x .instructions .count ≤ 40) × (x .lines .count ≤ 8) × (load < 40) × (k < 256) ⌝ }
-    ensures { λ r. ⌜ r ≡ sightBroken x (now (places .entry)) load k ⌝ }
+fn sight_broken(x: Execution, places: &[u8; Position::LIMIT], load: InstructionNo, k: usize) -> bool
+    requires { ⌜ (x .instructions .count ≤ 40) × (x .lines .count ≤ 8) × (load .0 < 40) × (k < 256) ⌝ }
+    ensures { λ r. ⌜ r ≡ sightBroken x (now (places .entry)) (load .0) k ⌝ }
 {
     let is = x.instructions;
-    if place_of(places, first_of(is, load)) >= ABSENT {
+    if place_of(places, read_no(is, load)) >= ABSENT {
         return false;
     }
     let address = address_of(is, load) + k;
@@ -262,13 +295,14 @@ fn sight_broken(x: Execution, places: &[u8; Position::LIMIT], load: usize, k: us
 }
 
 // Whether instruction i is a load that breaks the rule.
-pub fn load_broken(x: Execution, places: &[u8; Position::LIMIT], i: usize) -> bool
-    requires { ⌜ (x .instructions .count ≤ 40) × (x .lines .count ≤ 8) × (i < 40) ⌝ }
-    ensures { λ r. ⌜ r ≡ loadBroken x (now (places .entry)) i ⌝ }
+pub fn load_broken(x: Execution, places: &[u8; Position::LIMIT], i: InstructionNo) -> bool
+    requires { ⌜ (x .instructions .count ≤ 40) × (x .lines .count ≤ 8) × (i .0 < 40) ⌝ }
+    ensures { λ r. ⌜ r ≡ loadBroken x (now (places .entry)) (i .0) ⌝ }
 {
     let is = x.instructions;
     let kinds = is.kinds;
-    let kind = kind_of(kinds[i]);
+    let at = i.0;
+    let kind = kind_of(kinds[at]);
     if !is_load(kind) {
         return false;
     }
@@ -287,7 +321,7 @@ pub fn sights_broken(x: Execution, places: &[u8; Position::LIMIT]) -> bool
     ensures { λ r. ⌜ ((n : ℕ) (xs : List ℕ) → Placed n xs (now (places .entry)) → r ≡ any (broken xs) (rule11 (executionOf x))) ⌝ }
 {
     for i in 0..x.instructions.count {
-        if load_broken(x, places, i) {
+        if load_broken(x, places, InstructionNo(i)) {
             return true;
         }
     }

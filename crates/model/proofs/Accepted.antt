@@ -13,7 +13,7 @@ use Rattle.base.proofs.Bools.{split, and-parts}
 use Rattle.base.proofs.Lists.{member-in, all-member}
 use Rattle.model.specs.Execution.{Kind, kindOf, isFence, Instruction, Execution, roles, operationCount, operations, Line}
 use Rattle.model.specs.Accepted.{Consecutive, Sound, Each, Rises, Accepted}
-use Rattle.model.specs.Calls.{says, refuses, answerOf, readAll}
+use Rattle.model.specs.Calls.{says, answerOf, readAll}
 use Rattle.model.specs.Questions.{Found, no-to, found, Reader, next, item, byte, ask, many, question2, question3, question5, question7, question8, question11, question12, question13, instructionOf, readLine, readLines, readInstruction, readProgram, readPrograms, readInstructions, readPair, readPairs, question15, readRecord}
 
 -- Steps of a walk that found something
@@ -71,11 +71,6 @@ module _ {A : Type 0} where
   each-more : (P : A → Type 0) (l : List A) (a : A) → Each P l → P a → Each P (l ++ (a ∷ []))
   each-more P [] a h k = (k, tt)
   each-more P (x ∷ l) a h k = (h .0, each-more P l a (h .1) k)
-
-  pub each-at : (P : A → Type 0) (l : List A) (d : A) (i : ℕ) → Each P l → i < length l → P (getD l i d)
-  each-at P [] d i h l = absurd (omega arith)
-  each-at P (x ∷ xs) d zero h l = h .0
-  each-at P (x ∷ xs) d (suc i) h l = each-at P xs d i (h .1) (omega arith)
 
 pub size-small : (k : Kind) (size : ℕ) → question7 k size ≡ true → size ≤ 8
 unfolding question7 all
@@ -217,14 +212,6 @@ read-found bytes e h = go (readRecord bytes) h
     go : (f : Found Execution) → answerOf f ≡ says e → (rest : List ℕ) × (f ≡ found e rest)
     go (no-to q) k = let z : _≡_ {A = ℕ} 0 1 = cc in absurd (omega arith)
     go (found a rest) k = let z : a ≡ e = cc in (rest, ap (λ (d : Execution). found d rest) z)
-
-pub read-refused : (bytes : List ℕ) (q : ℕ) → readAll bytes ≡ refuses q → readRecord bytes ≡ no-to q
-unfolding readAll answerOf
-read-refused bytes q h = go (readRecord bytes) h
-  where
-    go : (f : Found Execution) → answerOf f ≡ refuses q → f ≡ no-to q
-    go (no-to k) m = let z : k ≡ q = cc in ap no-to z
-    go (found a rest) m = let z : _≡_ {A = ℕ} 0 1 = cc in absurd (omega arith)
 
 -- the execution of an accepted record
 pub read-accepted : (bytes : List ℕ) (e : Execution) → readAll bytes ≡ says e → Accepted e

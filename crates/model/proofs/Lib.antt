@@ -8,4 +8,5 @@ pub mod Legal
 pub mod ProgramOrder
 pub mod Accepted
 pub mod Numbers
+pub mod Roles
 pub mod Quoted

@@ -1,33 +1,113 @@
 -- The numbers of operations: an instruction's operations follow each other from its first.
-use Prim.Native.Nat.{ℕ, zero, suc, _+_, _≤_, _<_}
+use Prim.Native.Nat.{ℕ, zero, suc, _+_, _-_, _≤_, _<_}
 use native.Mathlib.Omega.{arith}
 use mathlib.Core.Path.{_≡_, refl, sym, ap, _∙_}
-use mathlib.Core.List.{List, [], _∷_, _++_, map, List·Memᴰ, List·Memᴰ·head, List·Memᴰ·tail, List·Memᴰ·not-nil, List·Memᴰ·append-cases, Memᴰ·of-map}
+use mathlib.Core.Bool.{true, false, cond, false≢true}
+use mathlib.Core.List.{List, [], _∷_, _++_, append-nil, map, List·Memᴰ, List·Memᴰ·head, List·Memᴰ·tail, List·Memᴰ·not-nil, List·Memᴰ·append-cases, Memᴰ·of-map}
 use mathlib.Core.Logic.{⊎-elim}
-use lib.ListN.{length, getD, take, length-map}
-use Rattle.base.specs.Lists.{for, below}
+use lib.ListN.{length, getD, take, length-map, length-append, List·getD-append}
+use lib.Seq.{getD-append-add}
+use lib.Dec.{ltb}
+use borrow.Author.Tests.{ltb-true, ltb-false}
+use Rattle.base.specs.Lists.{any, for, below}
+use Rattle.base.proofs.Bools.{split}
 use Rattle.base.proofs.Lists.{length-count, getD-below, place-of}
-use Rattle.model.specs.Execution.{Kind, ld, ld-acq, st, st-rel, mf, Instruction, Role, R, LV, F, RV, roles, operationCount, numberOf, Operation, operationsOf}
+use Rattle.model.specs.Execution.{Kind, ld, ld-acq, st, st-rel, mf, kindRow, isStore, Instruction, Role, R, LV, F, RV, roles, operationCount, remotesAt, placeAmong, rolePlace, numberOf, Operation, operationsOf, hasRoleRV}
 use Rattle.model.specs.Accepted.{Consecutive}
 
-module _ (p : ℕ) (i : Instruction) where
-  single : (r : Role) (place : ℕ) → numberOf i r ≡ i .first → place < 1 → numberOf i (getD (r ∷ []) place F) ≡ i .first + place
-  single r zero h l = omega (arith, h)
-  single r (suc place) h l = absurd (omega arith)
+-- how many operations a kind gives, and the roles at their places
 
-  several : (place : ℕ) → place < suc (length (map RV (below p))) → numberOf i (getD (LV ∷ map RV (below p)) place F) ≡ i .first + place
-  unfolding below
-  several zero l = omega arith
-  several (suc place) l =
-      ap (numberOf i) (getD-below RV F p place (omega (arith, length-map (below p) RV, length-count 0 p))) ∙ omega arith
+module _ (p : ℕ) (k : Kind) where
+  pub store-count : isStore k ≡ true → length (roles p k) ≡ remotesAt k + p
+  unfolding roles remotesAt below
+  store-count h = rw h (omega (arith, length-append (kindRow k .alone) (map RV (below p)), length-map (below p) RV, length-count 0 p))
 
-  pub role-number : (k : Kind) (place : ℕ) → place < length (roles p k) → numberOf i (getD (roles p k) place F) ≡ i .first + place
-  unfolding roles
-  role-number ld place l = single R place refl l
-  role-number ld-acq place l = single R place refl l
-  role-number st place l = several place l
-  role-number st-rel place l = several place l
-  role-number mf place l = single F place refl l
+  pub other-count : isStore k ≡ false → length (roles p k) ≡ remotesAt k
+  unfolding roles remotesAt
+  other-count h = rw h (ap length (append-nil (kindRow k .alone)))
+
+  behind : isStore k ≡ true → (q : ℕ) → q < p → getD (roles p k) (remotesAt k + q) F ≡ RV q
+  unfolding roles remotesAt
+  behind t q l = rw t (getD-append-add (kindRow k .alone) (map RV (below p)) q F ∙ getD-below RV F p q l)
+
+  module _ (place : ℕ) where
+    pub alone-role : place < remotesAt k → getD (roles p k) place F ≡ getD (kindRow k .alone) place F
+    unfolding roles remotesAt
+    alone-role l = List·getD-append (kindRow k .alone) (cond (isStore k) (map RV (below p)) []) F place l
+
+    pub remote-role : remotesAt k ≤ place → place < length (roles p k) → getD (roles p k) place F ≡ RV (place - remotesAt k)
+    remote-role l h =
+        split (isStore k)
+        (λ t. at t (place - remotesAt k) (omega arith) (omega (arith, store-count t)))
+        (λ f. absurd (omega (arith, other-count f)))
+      where
+        at : isStore k ≡ true → (q : ℕ) → place ≡ remotesAt k + q → q < p → getD (roles p k) place F ≡ RV q
+        at t q e less = ap (λ (n : ℕ). getD (roles p k) n F) e ∙ behind t q less
+
+-- the role at a place of a kind's list of roles has that place
+
+first-place : (k : Kind) → rolePlace k (getD (kindRow k .alone) 0 F) ≡ 0
+unfolding placeAmong
+first-place ld = refl
+first-place ld-acq = refl
+first-place st = refl
+first-place st-rel = refl
+first-place mf = refl
+
+-- before the RVs each kind gives one operation
+pub one-alone : (k : Kind) → remotesAt k ≡ 1
+unfolding remotesAt
+one-alone ld = refl
+one-alone ld-acq = refl
+one-alone st = refl
+one-alone st-rel = refl
+one-alone mf = refl
+
+-- the places of R, of F and of LV, which is the last before the RVs
+pub R-place : (k : Kind) → rolePlace k R ≡ 0
+unfolding placeAmong any
+R-place ld = refl
+R-place ld-acq = refl
+R-place st = refl
+R-place st-rel = refl
+R-place mf = refl
+
+pub F-place : (k : Kind) → rolePlace k F ≡ 0
+unfolding placeAmong any
+F-place ld = refl
+F-place ld-acq = refl
+F-place st = refl
+F-place st-rel = refl
+F-place mf = refl
+
+pub LV-place : (k : Kind) → suc (rolePlace k LV) ≡ remotesAt k
+unfolding placeAmong any remotesAt
+LV-place ld = refl
+LV-place ld-acq = refl
+LV-place st = refl
+LV-place st-rel = refl
+LV-place mf = refl
+
+alone-place : (k : Kind) (place : ℕ) → place < remotesAt k → rolePlace k (getD (kindRow k .alone) place F) ≡ place
+alone-place k zero l = first-place k
+alone-place k (suc place) l = absurd (omega (arith, one-alone k))
+
+module _ (p : ℕ) where
+  pub role-place : (k : Kind) (place : ℕ) → place < length (roles p k) → rolePlace k (getD (roles p k) place F) ≡ place
+  role-place k place l =
+      split (ltb place (remotesAt k))
+      (λ t. ap (rolePlace k) (alone-role p k place (ltb-true place (remotesAt k) t)) ∙ alone-place k place (ltb-true place (remotesAt k) t))
+      (λ f. ap (rolePlace k) (remote-role p k place (omega (arith, ltb-false place (remotesAt k) f)) l) ∙ omega (arith, ltb-false place (remotesAt k) f))
+
+  pub role-number : (i : Instruction) (place : ℕ) → place < length (roles p (i .kind)) → numberOf i (getD (roles p (i .kind)) place F) ≡ i .first + place
+  role-number i place l = omega (arith, role-place (i .kind) place l)
+
+-- an operation that is no RV stands before the RVs
+pub before-remotes : (k : Kind) (r : Role) → hasRoleRV r (λ _. true) ≡ false → rolePlace k r < remotesAt k
+before-remotes k R h = omega (arith, R-place k, LV-place k)
+before-remotes k LV h = omega (arith, LV-place k)
+before-remotes k F h = omega (arith, F-place k, LV-place k)
+before-remotes k (RV q) h = absurd (false≢true (sym h))
 
 -- instruction i of instructions that are numbered consecutively
 pub consecutive-at : (p at n : ℕ) (is : List Instruction) (d : Instruction) (i : ℕ) → Consecutive p at n is → i < length is
@@ -60,7 +140,7 @@ number-below p at n (i ∷ is) o l m =
     (λ w.
     let (r, u, e) = Memᴰ·of-map (λ r. record { number = numberOf i r; instruction = i; role = r }) (roles p (i .kind)) w in
     let (k, h, g) = place-of F u in
-    omega (arith, l .0, role-number p i (i .kind) k h, ap (numberOf i) g, ap (λ (q : Operation). q .number) e))
+    omega (arith, l .0, role-number p i k h, ap (numberOf i) g, ap (λ (q : Operation). q .number) e))
     (λ w. omega (arith, number-below p (at + length (roles p (i .kind))) (suc n) is o (l .2) w))
     (List·Memᴰ·append-cases (operationsOf p i) m)
 

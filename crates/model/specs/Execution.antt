@@ -3,7 +3,7 @@ use Prim.Native.Nat.{ℕ, suc, _+_, _/_, _%_}
 use mathlib.Core.Bool.{Bool, true, false, cond}
 use mathlib.Core.List.{List, [], _∷_, _++_, map}
 use lib.ListN.{length, getD}
-use Rattle.base.specs.Lists.{keep, for, below}
+use Rattle.base.specs.Lists.{any, keep, for, below}
 
 -- The kind of an instruction. Its number in the record is its place in this list.
 pub data Kind : Type 0 where
@@ -16,6 +16,32 @@ kindOf k = getD (ld ∷ ld-acq ∷ st ∷ st-rel ∷ []) k mf
 pub data Role : Type 0 where
   R LV F : Role
   RV : ℕ → Role
+
+-- Tests of a role
+abbrev pub hasRoleR : Role → Bool
+hasRoleR R = true
+hasRoleR LV = false
+hasRoleR F = false
+hasRoleR (RV q) = false
+
+abbrev pub hasRoleLV : Role → Bool
+hasRoleLV R = false
+hasRoleLV LV = true
+hasRoleLV F = false
+hasRoleLV (RV q) = false
+
+abbrev pub hasRoleF : Role → Bool
+hasRoleF R = false
+hasRoleF LV = false
+hasRoleF F = true
+hasRoleF (RV q) = false
+
+-- RV to a processor that passes the test
+abbrev pub hasRoleRV : Role → (ℕ → Bool) → Bool
+hasRoleRV R p = false
+hasRoleRV LV p = false
+hasRoleRV F p = false
+hasRoleRV (RV q) p = p q
 
 -- What a kind does: whether it is a load, a store, acquires, releases, is a fence; its row and column of the table of program-order rules; and the operations
 -- that it gives before the RVs, which a store has.
@@ -108,12 +134,29 @@ operationCount p (i ∷ is) = length (roles p (i .kind)) + operationCount p is
 unfoldable pub operations : Execution → ℕ
 operations e = operationCount (e .processors) (e .instructions)
 
+-- how many operations a kind gives before the RVs: the place of RV_0
+unfoldable pub remotesAt : Kind → ℕ
+remotesAt k = length (kindRow k .alone)
+
+-- the place of the first role that passes a test; 0 where none does
+unfoldable pub placeAmong : (Role → Bool) → List Role → ℕ
+placeAmong t [] = 0
+placeAmong t (r ∷ rs) = cond (t r) 0 (cond (any t rs) (suc (placeAmong t rs)) 0)
+
+-- the place of a role in a kind's list of roles
+abbrev pub rolePlace : Kind → Role → ℕ
+rolePlace k R = placeAmong hasRoleR (kindRow k .alone)
+rolePlace k LV = placeAmong hasRoleLV (kindRow k .alone)
+rolePlace k F = placeAmong hasRoleF (kindRow k .alone)
+rolePlace k (RV q) = remotesAt k + q
+
+-- the number of an operation: that of its instruction's first operation plus the place of its role
+abbrev pub numberFrom : ℕ → Kind → Role → ℕ
+numberFrom first k r = first + rolePlace k r
+
 -- the number of an instruction's operation by its role
 abbrev pub numberOf : Instruction → Role → ℕ
-numberOf i R = i .first
-numberOf i LV = i .first
-numberOf i F = i .first
-numberOf i (RV q) = suc (i .first) + q
+numberOf i r = numberFrom (i .first) (i .kind) r
 
 pub record Operation : Type 0 where
   pub number : ℕ

@@ -1,12 +1,12 @@
 -- The visibility rules, each under its number, and what it is for a prefix to break them.
 use Prim.Native.Nat.{ℕ, suc, _+_, _-_}
-use mathlib.Core.Bool.{Bool, true, false, not, cond, _&&_, _||_}
+use mathlib.Core.Bool.{Bool, false, not, cond, _&&_, _||_}
 use mathlib.Core.List.{List, [], _∷_, map}
 use mathlib.Core.Option.{Option, none, some}
 use lib.ListN.{getD}
 use lib.Dec.{eqb, leb, ltb}
 use Rattle.base.specs.Lists.{any, keep, when, for, count, below, member}
-use Rattle.model.specs.Execution.{isAcquire, isRelease, isWB, isUC, Instruction, Execution, Role, R, LV, F, RV, numberOf, Operation, operations, allOperations, loads, stores, everyProcessor, attributeAt, initialByte}
+use Rattle.model.specs.Execution.{isAcquire, isRelease, isWB, isUC, Instruction, Execution, Role, R, LV, F, RV, hasRoleR, hasRoleLV, hasRoleF, hasRoleRV, numberOf, Operation, operations, allOperations, loads, stores, everyProcessor, attributeAt, initialByte}
 
 -- 'A before B' as a prefix (document 01: beginning) settles it: A stands in it, and B stands later or not at all
 unfoldable pub before : List ℕ → ℕ → ℕ → Bool
@@ -34,31 +34,6 @@ unfoldable pub overlap : Instruction → Instruction → Bool
 overlap i j = any (accesses j) (addresses i)
 
 -- Operations by role
-
-abbrev pub hasRoleR : Role → Bool
-hasRoleR R = true
-hasRoleR LV = false
-hasRoleR F = false
-hasRoleR (RV q) = false
-
-abbrev pub hasRoleLV : Role → Bool
-hasRoleLV R = false
-hasRoleLV LV = true
-hasRoleLV F = false
-hasRoleLV (RV q) = false
-
-abbrev pub hasRoleF : Role → Bool
-hasRoleF R = false
-hasRoleF LV = false
-hasRoleF F = true
-hasRoleF (RV q) = false
-
--- RV to a processor that passes the test
-abbrev pub hasRoleRV : Role → (ℕ → Bool) → Bool
-hasRoleRV R p = false
-hasRoleRV LV p = false
-hasRoleRV F p = false
-hasRoleRV (RV q) p = p q
 
 abbrev pub isR : Operation → Bool
 isR a = hasRoleR (a .role)

@@ -1,4 +1,5 @@
-// The decoded execution: kinds, attributes, numbers, the arrays that hold an execution, and positions.
+// The decoded execution: kinds, roles, attributes, numbers, the arrays that hold an execution, and positions.
 pub mod kind;
+pub mod number;
 pub mod position;
 pub mod types;

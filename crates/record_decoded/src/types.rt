@@ -32,7 +32,7 @@ pub struct OperationNo(pub usize);
 // The lines of memory. Line k's initial bytes are the eight from 8k on.
 pub struct Lines {
     pub count: usize,
-    pub attributes: [u8; 8],
+    pub attributes: [u8; MOST_LINES as usize],
     pub initial: [u8; 64],
 }
 
@@ -41,19 +41,19 @@ pub struct Lines {
 pub struct Instructions {
     pub count: usize,
     pub operations: usize,
-    pub processors: [u8; 40],
-    pub kinds: [u8; 40],
-    pub addresses: [u8; 40],
-    pub sizes: [u8; 40],
-    pub firsts: [u16; 40],
+    pub processors: [u8; MOST_INSTRUCTIONS],
+    pub kinds: [u8; MOST_INSTRUCTIONS],
+    pub addresses: [u8; MOST_INSTRUCTIONS],
+    pub sizes: [u8; MOST_INSTRUCTIONS],
+    pub firsts: [u16; MOST_INSTRUCTIONS],
     pub bytes: [u8; DATA_STRIDE * MOST_INSTRUCTIONS],
 }
 
 // The dependence pairs: numbers of the earlier and the later instruction.
 pub struct Pairs {
     pub count: usize,
-    pub earlier: [u8; 40],
-    pub later: [u8; 40],
+    pub earlier: [u8; MOST_PAIRS as usize],
+    pub later: [u8; MOST_PAIRS as usize],
 }
 
 pub struct Execution {

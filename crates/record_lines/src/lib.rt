@@ -23,7 +23,7 @@ pub fn no_lines() -> Lines
 {
     Lines {
         count: 0,
-        attributes: [0u8; 8],
+        attributes: [0u8; MOST_LINES as usize],
         initial: [0u8; 64],
     }
 }

@@ -28,8 +28,8 @@ pub fn no_pairs() -> Pairs
 {
     Pairs {
         count: 0,
-        earlier: [0u8; 40],
-        later: [0u8; 40],
+        earlier: [0u8; MOST_PAIRS as usize],
+        later: [0u8; MOST_PAIRS as usize],
     }
 }
 

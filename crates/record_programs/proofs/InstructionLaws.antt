@@ -11,19 +11,18 @@ use Rattle.base.proofs.Bools.{split}
 use Rattle.base.proofs.Lists.{map-below-more}
 use Rattle.model.specs.Execution as model
 use Rattle.model.specs.Execution.{kindOf, isStore, roles, operationCount}
-use Rattle.model.proofs.Numbers.{count-more}
+use Rattle.model.proofs.Numbers.{count-more, one-alone, store-count, other-count}
 use Rattle.model.specs.Questions.{instructionOf}
 use Rattle.record_decoded.specs.declared.types.Instructions.{Instructions}
 use Rattle.record_decoded.specs.Decoded.{eight, instructionAt, instructionsOf}
 use Rattle.record_decoded.specs.Steps.{InstructionMore}
 use Rattle.record_decoded.proofs.Arrays.{instructions-length}
-use Rattle.record_decoded.proofs.Counts.{store-operations, other-operations}
 use Rattle.record_decoded.proofs.Eights.{drop-take, eight-new, eight-old}
 use Rattle.record_decoded.proofs.Items.{item-first, item-byte}
 
 pub few-roles : (p : ℕ) (k : model.Kind) → p ≤ 8 → length (roles p k) ≤ 9
 few-roles p k h =
-    split (isStore k) (λ e. omega (arith, store-operations p k e)) (λ e. omega (arith, other-operations p k e))
+    split (isStore k) (λ e. omega (arith, one-alone k, store-count p k e)) (λ e. omega (arith, one-alone k, other-count p k e))
 
 -- the lengths of the arrays
 pub record Sized (x : Instructions) : Type 0 where

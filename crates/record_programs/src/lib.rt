@@ -12,6 +12,7 @@ ghost use Rattle.record_decoded.specs.Kinds.{meant};
 ghost use Rattle.record_decoded.specs.Decoded.{instructionsOf, Counted};
 ghost use Rattle.record_decoded.specs.Steps.{Answered, InstructionsComeTo, InstructionMore};
 use record_decoded::kind::Kind;
+use record_decoded::kind::LAST_KIND;
 use record_decoded::kind::is_fence;
 use record_decoded::kind::kind_of;
 use record_decoded::kind::operation_count;
@@ -36,11 +37,11 @@ pub fn no_instructions() -> Instructions
     Instructions {
         count: 0,
         operations: 0,
-        processors: [0u8; 40],
-        kinds: [0u8; 40],
-        addresses: [0u8; 40],
-        sizes: [0u8; 40],
-        firsts: [0u16; 40],
+        processors: [0u8; MOST_INSTRUCTIONS],
+        kinds: [0u8; MOST_INSTRUCTIONS],
+        addresses: [0u8; MOST_INSTRUCTIONS],
+        sizes: [0u8; MOST_INSTRUCTIONS],
+        firsts: [0u16; MOST_INSTRUCTIONS],
         bytes: [0u8; DATA_STRIDE * MOST_INSTRUCTIONS],
     }
 }
@@ -98,7 +99,7 @@ fn instruction_question(part: &[u8], at: usize, lines: usize) -> Asked
         return Asked::Fail(1);
     }
     let k = part[at];
-    if 4 < k {
+    if LAST_KIND < k {
         return Asked::Fail(6);
     }
     let kind = kind_of(k);

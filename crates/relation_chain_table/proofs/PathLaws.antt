@@ -2,24 +2,20 @@
 use Prim.Native.Nat.{ℕ, zero, suc, _<_, _≤_}
 use native.Mathlib.Omega.{arith}
 use native.Mathlib.Decide.{decLt}
-use mathlib.Core.Path.{_≡_, refl, sym, ap, _∙_, subst}
+use mathlib.Core.Path.{_≡_, refl, ap, subst}
 use mathlib.Core.Bool.{Bool, true, false, not, _&&_, _||_}
 use mathlib.Core.List.{List, _∷_, List·Memᴰ, List·Memᴰ·head, List·Memᴰ·tail, List·Memᴰ·not-nil, List·Memᴰ·cases-cons}
-use mathlib.Core.Logic.{_⊎_, inl, inr, ⊎-elim, _↔_}
+use mathlib.Core.Logic.{_⊎_, inl, inr, ⊎-elim}
 use lib.ListN.{length}
 use lib.Dec.{eqb}
 use borrow.Author.Tests.{eq-eqb, eqb-true}
 use Rattle.base.specs.Lists.{any, below, member}
-use Rattle.base.proofs.Bools.{split, clash, agree, and-parts, and-both, or-right}
+use Rattle.base.proofs.Bools.{split, clash, agree, and-parts, and-both, or-right, or-parts}
 use Rattle.base.proofs.Lists.{any-witness, any-member, in-keep, of-keep, keep-less, keep-length, in-below, of-below, length-count, member-in, in-member}
 use Rattle.model.specs.Rules.{Link}
 use Rattle.model.specs.Chains.{leads, reachedBy, chainMark}
-use Rattle.relation_chain_table.specs.Squares.{markOf, cell, MarksAre, via, closedBy}
-use Rattle.relation_chain_table.specs.Paths.{Path, one, more, Within, MarksArePaths, CellsArePaths}
-
-or-parts : (a b : Bool) → (a || b) ≡ true → (a ≡ true) ⊎ (b ≡ true)
-or-parts true b h = inl refl
-or-parts false b h = inr h
+use Rattle.relation_chain_table.specs.Squares.{markOf, via, closedBy}
+use Rattle.relation_chain_table.specs.Paths.{Path, one, more, Within, MarksArePaths}
 
 or-left : {a : Bool} (b : Bool) → a ≡ true → (a || b) ≡ true
 or-left {a} b h = rw h
@@ -198,17 +194,6 @@ module _ (n : ℕ) (links : List Link) where
   path-closed w {a} {b} (one l) = closed-has (leads n links) n a b (link-leads n links l)
   path-closed w {a} {b} (more {b = c} l p) =
       closed-joins (leads n links) n a b c (w a c l .1) (closed-has (leads n links) n a c (link-leads n links l)) (path-closed w p)
-
-  -- the closed relation is the paths
-  pub closed-is-path : Within n links → (a b : ℕ) → (closedBy n (leads n links) a b ≡ true) ↔ Path links a b
-  closed-is-path w a b = (closed-path n a b, path-closed w)
-
-  -- cell (a, b) of a closed square is 1 exactly where a path leads from a to b
-  pub cells-are-paths : Within n links → (m : List (List ℕ)) → MarksAre n m (closedBy n (leads n links)) → CellsArePaths n links m
-  cells-are-paths w m holds a b h l = (
-    λ e. closed-path n a b (sym (holds a b h l) ∙ eq-eqb (cell m a b) 1 e),
-    λ p. eqb-true (cell m a b) 1 (holds a b h l ∙ path-closed w p),
-  )
 
   -- a mark of the chain table by the closed relation
   pub mark-is-closed : Within n links → (a b : ℕ) → chainMark n links a b ≡ markOf (closedBy n (leads n links) a b)

@@ -3,7 +3,7 @@ use Prim.Native.Nat.{ℕ, zero, suc, _*_, _<_, _≤_}
 use native.Mathlib.Nat.{mul-le-mul-right}
 use native.Mathlib.Omega.{arith}
 use mathlib.Core.Path.{_≡_, refl, sym, ap, ap₂, _∙_, subst}
-use mathlib.Core.Bool.{Bool, true, false, cond}
+use mathlib.Core.Bool.{Bool}
 use mathlib.Core.List.{List, [], _∷_, _++_, map, List·Memᴰ, List·Memᴰ·head, List·Memᴰ·tail}
 use lib.ListN.{length, getD, drop}
 use lib.Dec.{leb}
@@ -28,9 +28,9 @@ use Rattle.relation_chain_table.specs.declared.TableAnswer.the-variants.
 use Rattle.relation_chain_table.specs.Replies.{replyOf}
 use Rattle.relation_links.specs.Linked.{linkedAt}
 use Rattle.relation_chain_table.specs.Squares.{markOf, marked, MarksAre, via, closedBy, rowMarks, squareMarks}
-use Rattle.relation_chain_table.specs.Paths.{Within, CellsArePaths}
+use Rattle.relation_chain_table.specs.Paths.{Within}
 use Rattle.relation_chain_table.proofs.RowLaws.{square-length}
-use Rattle.relation_chain_table.proofs.PathLaws.{mark-is-closed, cells-are-paths}
+use Rattle.relation_chain_table.proofs.PathLaws.{mark-is-closed}
 use Rattle.relation_chain_table.proofs.LinkedLaws.{links-within, leads-here}
 
 module _ (bytes table : List ℕ) where
@@ -100,10 +100,6 @@ module _ (x : Execution) (a : Accepted (executionOf x)) where
             (λ i j p q. closed i j p q
             ∙ closed-same (t .count) (marked links) (leads (operations e) (linksOf e (linked e)))
             (λ i j p q. filled i j p q ∙ leads-here c (a .consecutive) i j p q) (t .count) (omega arith) i j p q)
-
-        -- a cell is 1 exactly where a path of links leads
-        pub square-is-paths : CellsArePaths (operations e) (linksOf e (linked e)) chains
-        square-is-paths = cells-are-paths (operations e) (linksOf e (linked e)) (links-within e (linked e) (a .consecutive)) chains holds
 
         written : squareMarks chains (t .count) (t .count) ≡ chainMarks (operations e) (linksOf e (linked e))
         written =

@@ -1,4 +1,4 @@
--- Paths of links by what they are, with no algorithm; what it is for marks and cells to be the paths, and the claim that those of the call are.
+-- Paths of links by what they are, with no algorithm; what it is for marks and bytes to be the paths, and the claim that those of the call are.
 use Prim.Native.Nat.{ℕ, _+_, _*_, _<_, _≤_}
 use mathlib.Core.Path.{_≡_}
 use mathlib.Core.List.{List, List·Memᴰ}
@@ -8,7 +8,6 @@ use Rattle.model.specs.Execution.{Execution, operations}
 use Rattle.model.specs.Rules.{Link, linksOf, linked}
 use Rattle.model.specs.Chains.{chainMark}
 use Rattle.model.specs.Calls.{says, readAll, tableCall}
-use Rattle.relation_chain_table.specs.Squares.{cell}
 
 -- a path from a to b: one link, or a link and then a path
 pub data Path (links : List Link) : ℕ → ℕ → Type 0 where
@@ -22,10 +21,6 @@ Within n links = (a b : ℕ) → List·Memᴰ (a, b) links → (a < n) × (b < n
 -- mark (a, b) is 1 exactly where a path leads from a to b
 abbrev pub MarksArePaths : ℕ → List Link → Type 0
 MarksArePaths n links = (a b : ℕ) → a < n → b < n → (chainMark n links a b ≡ 1) ↔ Path links a b
-
--- the cell of row a and column b is 1 exactly where a path leads from a to b
-abbrev pub CellsArePaths : ℕ → List Link → List (List ℕ) → Type 0
-CellsArePaths n links m = (a b : ℕ) → a < n → b < n → (cell m a b ≡ 1) ↔ Path links a b
 
 -- the byte at a × n + b of a table is 1 exactly where a path leads from a to b
 abbrev pub BytesArePaths : ℕ → List Link → List ℕ → Type 0

@@ -7,6 +7,7 @@ ghost use Rattle.relation_links.specs.Linked.{linkedAt};
 ghost use Rattle.relation_chain_table.specs.Squares.{markOf, marked, MarksAre};
 use record_decoded::position::Position;
 use record_decoded::types::Instructions;
+use record_decoded::types::MOST_INSTRUCTIONS;
 use record_decoded::types::OperationNo;
 use record_decoded::types::wide;
 use relation_links::link::is_linked;
@@ -37,7 +38,7 @@ pub fn is_marked(
 fn links_row(
     is: Instructions,
     t: Operations,
-    marks: &[[u16; 40]; 40],
+    marks: &[[u16; MOST_INSTRUCTIONS]; MOST_INSTRUCTIONS],
     from: OperationNo,
 ) -> [u8; Position::LIMIT]
     requires { ⌜ (from .0 < t .count) × (t .count ≤ 128) × ((o : ℕ) → o < t .count → getD (t .owners) o 0 < 40) ⌝ }
@@ -64,7 +65,7 @@ fn links_row(
 pub fn links_square(
     is: Instructions,
     t: Operations,
-    marks: &[[u16; 40]; 40],
+    marks: &[[u16; MOST_INSTRUCTIONS]; MOST_INSTRUCTIONS],
 ) -> [[u8; Position::LIMIT]; Position::LIMIT]
     requires { ⌜ (t .count ≤ 128) × ((o : ℕ) → o < t .count → getD (t .owners) o 0 < 40) ⌝ }
     ensures { λ r. ⌜ MarksAre (t .count) r (linkedAt is t (now (marks .entry))) ⌝ }

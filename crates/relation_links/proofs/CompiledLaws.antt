@@ -7,22 +7,43 @@ use lib.ListN.{getD, length-map}
 use Rattle.base.specs.Lists.{for, below}
 use Rattle.base.proofs.Lists.{length-count, in-below, of-below}
 use Rattle.model.specs.Execution as model
-use Rattle.model.specs.Execution.{operationCount, operations, operationsOf, allOperations}
+use Rattle.model.specs.Execution.{roles, numberOf, operationCount, operations, operationsOf, allOperations}
 use Rattle.model.specs.Accepted.{Consecutive, Accepted}
 use Rattle.record_decoded.specs.declared.types.Execution.{Execution}
+use Rattle.record_decoded.specs.Kinds.{roleNumbered}
 use Rattle.record_decoded.specs.Decoded.{pairAt, pairsOf, instructionAt, instructionsOf, executionOf}
 use Rattle.record_decoded.proofs.Arrays.{lines-length, instructions-length}
 use Rattle.relation_links.specs.declared.operations.Operations.{Operations}
 use Rattle.relation_marks.specs.Marks.{marksBetween, markAt}
 use Rattle.relation_links.specs.Operations.{operationAt, tableOf, Tabled}
 use Rattle.relation_links.specs.Compiled.{Compiled}
-use Rattle.relation_links.proofs.LinkLaws.{operation-of}
+use Rattle.relation_links.proofs.LinkLaws.{operation-of, operation-role, operation-number}
 
 module _ {x : Execution} {t : Operations} {marks : List (List ℕ)} (h : Compiled x t marks) where
   -- operation o of the table is one of the execution
   pub operation-there : (o : ℕ) → o < t .count → List·Memᴰ (operationAt (x .instructions) t o) (allOperations (executionOf x))
   unfolding tableOf
   operation-there o l = subst (List·Memᴰ (operationAt (x .instructions) t o)) (h .tabled .holds) (Memᴰ·map (operationAt (x .instructions) t) (in-below (t .count) o l))
+
+  -- its instruction, its role and its number
+  module _ (o : ℕ) (l : o < t .count) where
+    abbrev owner : model.Instruction
+    owner = instructionAt (x .instructions) (getD (t .owners) o 0)
+
+    abbrev role : model.Role
+    role = roleNumbered (getD (t .roles) o 0)
+
+    pub owner-in : List·Memᴰ owner (executionOf x .instructions)
+    unfolding operationAt
+    owner-in = operation-of (executionOf x) (operationAt (x .instructions) t o) (operation-there o l)
+
+    pub role-in : List·Memᴰ role (roles (executionOf x .processors) (owner .kind))
+    unfolding operationAt
+    role-in = operation-role (executionOf x) (operationAt (x .instructions) t o) (operation-there o l)
+
+    pub number-is : o ≡ numberOf owner role
+    unfolding operationAt
+    number-is = operation-number (executionOf x) (operationAt (x .instructions) t o) (operation-there o l)
 
   -- its instruction is one of the record
   pub owner-there : (o : ℕ) → o < t .count → getD (t .owners) o 0 < x .instructions .count

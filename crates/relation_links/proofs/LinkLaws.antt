@@ -1,20 +1,19 @@
 -- Marks and roles say what the rules say of two operations.
-use Prim.Native.Nat.{ℕ, zero, suc, _+_, _^_, _≤_, _<_}
+use Prim.Native.Nat.{ℕ, zero, suc, _^_, _≤_, _<_}
 use native.Mathlib.Omega.{arith}
 use native.Mathlib.Decide.{decLt}
 use mathlib.Core.Path.{_≡_, refl, sym, ap, ap₂, _∙_, subst}
-use mathlib.Core.Bool.{Bool, true, false, not, _&&_, _||_, and-true, and-false, and-assoc, or-false}
-use mathlib.Core.List.{List, [], _∷_, map, List·Memᴰ, List·Memᴰ·head, List·Memᴰ·tail, List·Memᴰ·not-nil, List·Memᴰ·eq-of-singleton, List·Memᴰ·cases-cons, Memᴰ·of-map}
-use mathlib.Core.Logic.{_⊎_, inl, inr}
-use lib.ListN.{length, getD, List·getD-eq-default}
+use mathlib.Core.Bool.{Bool, true, false, not, _&&_, _||_, and-true, and-false, and-assoc, or-true, or-false}
+use mathlib.Core.List.{List·Memᴰ, Memᴰ·of-map}
+use lib.ListN.{getD, List·getD-eq-default}
 use lib.Dec.{eqb}
 use borrow.Author.Tests.{eqb-true}
-use Rattle.base.specs.Lists.{below}
 use Rattle.base.specs.Below.{anyBelow}
 use Rattle.base.proofs.Lists.{of-for}
 use Rattle.base.proofs.Bits.{bit-packed}
-use Rattle.model.specs.Execution.{Kind, ld, ld-acq, st, st-rel, mf, isLoad, isStore, isAcquire, isFence, isRelease, Instruction, Execution, Role, LV, RV, roles, numberOf, Operation, operationsOf, allOperations}
-use Rattle.model.specs.Rules.{hasRoleR, hasRoleLV, hasRoleF, hasRoleRV, sameVisibility, earlier, link1, link2, link3, link4, link5, link6, link7, paired, link8, link13, linked}
+use Rattle.model.specs.Execution.{Kind, isLoad, isStore, isAcquire, isFence, isRelease, Instruction, Execution, Role, R, LV, F, RV, roles, numberOf, Operation, operationsOf, allOperations, hasRoleR, hasRoleLV, hasRoleF, hasRoleRV}
+use Rattle.model.specs.Rules.{sameVisibility, earlier, link1, link2, link3, link4, link5, link6, link7, paired, link8, link13, linked}
+use Rattle.model.proofs.Roles.{of-roles, R-load, LV-store, RV-store, load-no-fence, store-no-fence}
 use Rattle.model.specs.Accepted.{Consecutive}
 use Rattle.model.proofs.Numbers.{one-numbered}
 use Rattle.model.proofs.ProgramOrder.{marks-rule2, marks-rule3, marks-rule4}
@@ -55,31 +54,19 @@ operation-processor e l a b ma mb h =
 
 -- an mf has only F; loads and stores have no F
 module _ (p : ℕ) where
-  remote : {r : Role} → List·Memᴰ r (map RV (below p)) → hasRoleF r ≡ false
-  remote m = let (q, mq, h) = Memᴰ·of-map RV (below p) m in ap hasRoleF (sym h)
-
-  store-role : {r : Role} → (r ≡ LV) ⊎ List·Memᴰ r (map RV (below p)) → hasRoleF r ≡ false
-  store-role (inl h) = ap hasRoleF h
-  store-role (inr m) = remote m
-
   fence-role : (k : Kind) (r : Role) → List·Memᴰ r (roles p k) → isFence k ≡ hasRoleF r
-  unfolding roles
-  fence-role ld r m = ap hasRoleF (sym (List·Memᴰ·eq-of-singleton m))
-  fence-role ld-acq r m = ap hasRoleF (sym (List·Memᴰ·eq-of-singleton m))
-  fence-role st r m = sym (store-role (List·Memᴰ·cases-cons m))
-  fence-role st-rel r m = sym (store-role (List·Memᴰ·cases-cons m))
-  fence-role mf r m = ap hasRoleF (sym (List·Memᴰ·eq-of-singleton m))
+  fence-role k R m = load-no-fence k (R-load p k m)
+  fence-role k LV m = store-no-fence k (LV-store p k m)
+  fence-role k F m = of-roles p k m
+  fence-role k (RV q) m = store-no-fence k (RV-store p q k m)
 
   -- R, and one visibility, are of loads and stores
   access-role : (k : Kind) (r s : Role) (x : Bool) → List·Memᴰ r (roles p k)
       → ((isLoad k || isStore k) && x && (hasRoleR r || sameVisibility r s)) ≡ (x && (hasRoleR r || sameVisibility r s))
-  unfolding roles
-  access-role ld r s x m = refl
-  access-role ld-acq r s x m = refl
-  access-role st r s x m = refl
-  access-role st-rel r s x m = refl
-  access-role mf r s x m =
-      sym (ap (λ (t : Role). x && (hasRoleR t || sameVisibility t s)) (List·Memᴰ·eq-of-singleton m) ∙ and-false x)
+  access-role k R s x m = rw (R-load p k m)
+  access-role k LV s x m = rw (LV-store p k m, or-true (isLoad k))
+  access-role k F s x m = and-false ((isLoad k || isStore k) && x) ∙ sym (and-false x)
+  access-role k (RV q) s x m = rw (RV-store p q k m, or-true (isLoad k))
 
 -- two tests that agree where a third passes
 guarded : (t : Bool) {x y : Bool} → (t ≡ true → x ≡ y) → (t && x) ≡ (t && y)

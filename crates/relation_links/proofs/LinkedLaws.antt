@@ -10,7 +10,7 @@ use Rattle.base.specs.Below.{anyBelow}
 use Rattle.base.proofs.Tests.{any-passes, any-below-same}
 use Rattle.model.specs.Execution.{Role, RV}
 use Rattle.model.specs.Rules.{linked}
-use Rattle.model.specs.Accepted.{Consecutive, Accepted}
+use Rattle.model.specs.Accepted.{Consecutive}
 use Rattle.record_decoded.specs.Kinds.{roleNumbered}
 use Rattle.record_decoded.specs.declared.types.Execution.{Execution}
 use Rattle.record_decoded.specs.Decoded.{instructionAt, executionOf}
@@ -20,7 +20,7 @@ use Rattle.relation_links.specs.Operations.{operationAt}
 use Rattle.relation_links.specs.Compiled.{Compiled}
 use Rattle.relation_links.specs.Links.{ruleMark, rolesLink, linkBy}
 use Rattle.relation_links.proofs.LinkLaws.{operation-role, operation-processor, link-means, linked-by}
-use Rattle.relation_links.proofs.CompiledLaws.{operation-there, owner-there, few-instructions}
+use Rattle.relation_links.proofs.CompiledLaws.{operation-there, owner-there}
 use Rattle.relation_links.specs.Linked.{linkedBy, linkedAt}
 
 module _ (m p : ℕ) (a b : Role) where
@@ -106,14 +106,6 @@ from-remote m p (suc (suc (suc q))) b l h1 h3 h4 =
     ∙ last-rule m p (RV q) b h1 (remote-2 m p q b) h3 h4 (remote-5 m p q b) (remote-6 m p q b) (remote-7 m p q b) (remote-8 m p q b)
 
 -- the tables of an execution
-module _ {x : Execution} {t : Operations} {marks : List (List ℕ)} (h : Compiled x t marks) (accepted : Accepted (executionOf x)) where
-  -- how many operations and instructions there are
-  pub few-listed : t .count ≤ 128
-  few-listed = omega (arith, h .tabled .counts, accepted .operations-few)
-
-  pub owner-few : (o : ℕ) → o < t .count → getD (t .owners) o 0 < 40
-  owner-few o l = omega (arith, owner-there h o l, few-instructions x accepted)
-
 -- the tables' test of two operations is whether some rule links them
 pub linked-means : {x : Execution} {t : Operations} {marks : List (List ℕ)} → Compiled x t marks → Consecutive (executionOf x .processors) 0 0 (executionOf x .instructions)
     → (a o : ℕ) → a < t .count → o < t .count

@@ -10,9 +10,9 @@ use lib.Seq.{getD-set-same, getD-set-other, ext-getD, take-suc, take-all}
 use Rattle.base.specs.Lists.{below, count, for}
 use Rattle.base.proofs.Lists.{count-split, length-count, getD-count, map-same, of-count, for-append, for-one}
 use Rattle.model.specs.Execution as model
-use Rattle.model.specs.Execution.{Kind, Role, F, kindOf, roles, numberOf, operationsOf, operationCount}
+use Rattle.model.specs.Execution.{Kind, Role, F, kindOf, roles, rolePlace, numberOf, operationsOf, operationCount}
 use Rattle.model.specs.Accepted.{Consecutive}
-use Rattle.model.proofs.Numbers.{role-number, consecutive-at, count-more, count-first}
+use Rattle.model.proofs.Numbers.{role-place, consecutive-at, count-more, count-first}
 use Rattle.record_decoded.specs.Kinds.{roleNumbered}
 use Rattle.record_decoded.specs.Decoded.{instructionAt, instructionsOf}
 use Rattle.record_decoded.proofs.Arrays.{instructions-length, instruction-there}
@@ -95,7 +95,7 @@ module _ (is : Instructions) (t r : Operations) (i processors : ℕ) (kind : Kin
   }
     where
       number : t .count + j ≡ numberOf (instructionAt is i) (getD (roles processors kind) j F)
-      number = ap (λ (k : ℕ). k + j) first ∙ sym (role-number processors (instructionAt is i) kind j l)
+      number = omega (arith, first, role-place processors kind j l, ap (λ (k : Kind). rolePlace k (getD (roles processors kind) j F)) kind-is)
 
   pub table-more : tableOf is r ≡ tableOf is t ++ operationsOf processors (instructionAt is i)
   unfolding tableOf below operationsOf instructionAt

@@ -11,8 +11,8 @@ use Rattle.base.specs.Lists.{all}
 use Rattle.base.proofs.Bools.{agree, and-parts}
 use Rattle.base.proofs.Lists.{getD-there}
 use borrow.Author.Tests.{eq-eqb, eqb-true, ne-eqb, ltb-true}
-use Rattle.model.specs.Execution.{Role}
-use Rattle.model.specs.Rules.{hasRoleR, hasRoleLV, hasRoleRV, sameVisibility}
+use Rattle.model.specs.Execution.{Role, hasRoleR, hasRoleLV, hasRoleRV}
+use Rattle.model.specs.Rules.{sameVisibility}
 use Rattle.record_decoded.specs.Kinds.{roleNumbered}
 use Rattle.relation_links.specs.Links.{ruleMarkTable, ruleMark, rolesLink}
 

@@ -4,8 +4,8 @@ use mathlib.Core.Bool.{Bool, true, false, not, _&&_, _||_}
 use mathlib.Core.List.{List, [], _∷_}
 use lib.ListN.{getD}
 use lib.Dec.{eqb}
-use Rattle.model.specs.Execution.{Execution, Role, Operation}
-use Rattle.model.specs.Rules.{hasRoleR, hasRoleLV, hasRoleRV, sameVisibility, link1, link2, link3, link4, link5, link6, link7, link8, link13}
+use Rattle.model.specs.Execution.{Execution, Role, Operation, hasRoleR, hasRoleLV, hasRoleRV}
+use Rattle.model.specs.Rules.{sameVisibility, link1, link2, link3, link4, link5, link6, link7, link8, link13}
 use Rattle.relation_marks.specs.Marks.{hasMark}
 
 -- the link of a rule; no other rule has one

@@ -3,7 +3,8 @@ ghost use mathlib.Core.Path.{_≡_};
 ghost use mathlib.Core.Bool.{not, _||_};
 ghost use Prim.Native.Nat.{_<_};
 ghost use lib.Dec.{eqb};
-ghost use Rattle.model.specs.Rules.{hasRoleR, hasRoleLV, hasRoleRV, sameVisibility};
+ghost use Rattle.model.specs.Execution.{hasRoleR, hasRoleLV, hasRoleRV};
+ghost use Rattle.model.specs.Rules.{sameVisibility};
 ghost use Rattle.record_decoded.specs.Kinds.{roleNumbered};
 ghost use Rattle.relation_links.specs.Links.{ruleMark, rolesLink, linkBy};
 ghost use Rattle.relation_links.specs.Linked.{linkedBy};
@@ -133,10 +134,11 @@ pub fn roles_link(rule: u8, processor: u8, a: u8, b: u8) -> bool
 pub fn link(rule: u8, marks: u16, processor: u8, a: u8, b: u8) -> bool
     ensures { λ r. ⌜ r ≡ linkBy rule marks processor (roleNumbered a) (roleNumbered b) ⌝ }
 {
-    both(
-        has_mark(marks, rule_mark(rule)),
-        roles_link(rule, processor, a, b),
-    )
+    if has_mark(marks, rule_mark(rule)) {
+        roles_link(rule, processor, a, b)
+    } else {
+        false
+    }
 }
 
 // Whether some rule links two operations, the first of `processor`. From an RV only rules 1, 3 and 4 link.

@@ -34,6 +34,7 @@ use record_decoded::kind::is_store;
 use record_decoded::kind::kind_of;
 use record_decoded::types::Execution;
 use record_decoded::types::InstructionNo;
+use record_decoded::types::MOST_INSTRUCTIONS;
 
 // The marks of rules 2, 3 and 4 below others.
 fn with_program_marks(above: u16, earlier: bool, first: Kind, second: Kind) -> u16
@@ -116,7 +117,7 @@ fn marks_by(
 }
 
 // The marks of an instruction with each instruction.
-fn marks_row(x: Execution, i: InstructionNo) -> [u16; 40]
+fn marks_row(x: Execution, i: InstructionNo) -> [u16; MOST_INSTRUCTIONS]
     requires { ⌜ (i .0 < 40) × (x .instructions .count ≤ 40) × (x .lines .count ≤ 8) × (x .pairs .count ≤ 40) ⌝ }
     ensures { λ r. ⌜ ((k : ℕ) → k < x .instructions .count → getD r k 0 ≡ marksBetween (executionOf x) (instructionAt (x .instructions) (i .0)) (instructionAt (x .instructions) k)) ⌝ }
 {
@@ -132,13 +133,13 @@ fn marks_row(x: Execution, i: InstructionNo) -> [u16; 40]
     let size = sizes[first];
     let a = kind_of(kinds[first]);
     let of_a = attribute_in(x.lines, address);
-    let mut row = [0u16; 40];
+    let mut row = [0u16; MOST_INSTRUCTIONS];
     for k in 0..n {
         let own = processor == processors[k];
         let same = first == k;
         let earlier = both(own, first < k);
         let overlaps = shares_byte(address, size, addresses[k], sizes[k]);
-        let given = is_pair(x.pairs, first, k);
+        let given = is_pair(x.pairs, i, InstructionNo(k));
         let b = kind_of(kinds[k]);
         let of_b = attribute_in(x.lines, addresses[k]);
         row[k] = marks_by(same, own, earlier, overlaps, given, a, b, of_a, of_b);
@@ -147,13 +148,13 @@ fn marks_row(x: Execution, i: InstructionNo) -> [u16; 40]
 }
 
 // The marks of every two instructions.
-pub fn all_marks(x: Execution) -> [[u16; 40]; 40]
+pub fn all_marks(x: Execution) -> [[u16; MOST_INSTRUCTIONS]; MOST_INSTRUCTIONS]
     requires { ⌜ (x .instructions .count ≤ 40) × (x .lines .count ≤ 8) × (x .pairs .count ≤ 40) ⌝ }
     ensures { λ r. ⌜ ((m k : ℕ) → m < x .instructions .count → k < x .instructions .count → markAt r m k ≡ marksBetween (executionOf x) (instructionAt (x .instructions) m) (instructionAt (x .instructions) k)) ⌝ }
 {
     let is = x.instructions;
     let n = is.count;
-    let mut marks = [[0u16; 40]; 40];
+    let mut marks = [[0u16; MOST_INSTRUCTIONS]; MOST_INSTRUCTIONS];
     for m in 0..n {
         marks[m] = marks_row(x, InstructionNo(m));
     }

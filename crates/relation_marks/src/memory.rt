@@ -9,6 +9,7 @@ ghost use Rattle.relation_marks.specs.Marks.{givenPair};
 use crate::table::both;
 use record_decoded::kind::Attribute;
 use record_decoded::kind::attribute_of;
+use record_decoded::types::InstructionNo;
 use record_decoded::types::Lines;
 use record_decoded::types::Pairs;
 use record_decoded::types::wide;
@@ -48,9 +49,9 @@ pub fn is_uc(a: Attribute) -> bool
 }
 
 // Whether two instructions are a given pair.
-pub fn is_pair(pairs: Pairs, earlier: usize, later: usize) -> bool
+pub fn is_pair(pairs: Pairs, earlier: InstructionNo, later: InstructionNo) -> bool
     requires { ⌜ pairs .count ≤ 40 ⌝ }
-    ensures { λ r. ⌜ r ≡ givenPair (pairsOf pairs) earlier later ⌝ }
+    ensures { λ r. ⌜ r ≡ givenPair (pairsOf pairs) (earlier .0) (later .0) ⌝ }
 {
     let n = pairs.count;
     if n == 0 {
@@ -61,7 +62,7 @@ pub fn is_pair(pairs: Pairs, earlier: usize, later: usize) -> bool
     for k in 0..n {
         let first = wide(firsts[k]);
         let second = wide(seconds[k]);
-        if both(first == earlier, second == later) {
+        if both(first == earlier.0, second == later.0) {
             return true;
         }
     }

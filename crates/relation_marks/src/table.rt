@@ -2,10 +2,11 @@
 ghost use mathlib.Core.Path.{_≡_};
 ghost use mathlib.Core.Bool.{cond, _&&_, _||_};
 ghost use Prim.Native.Nat.{_+_, _*_, _<_, _≤_, min, max};
-ghost use Rattle.model.specs.Execution.{kindRow};
 ghost use Rattle.record_decoded.specs.Kinds.{meant};
 ghost use Rattle.relation_marks.specs.Marks.{programMarks, sharesByte, hasMark};
 use record_decoded::kind::Kind;
+use record_decoded::kind::table_column;
+use record_decoded::kind::table_row;
 use record_decoded::types::wide;
 
 // The marks: one instruction; rules 2, 3 and 4 by the kinds; a shared byte; a dependence pair; UC memory of both; conflicting stores; a UC store and an
@@ -50,25 +51,12 @@ const PROGRAM_ORDER: [[u16; 5]; 5] = [
     [FENCE, FENCE, FENCE, FENCE, FENCE],
 ];
 
-// A kind's row and column.
-pub fn kind_number(k: Kind) -> usize
-    ensures { λ r. ⌜ (r ≡ kindRow (meant k) .row) × (r ≡ kindRow (meant k) .column) × (r < 5) ⌝ }
-{
-    match k {
-        Kind::Ld => 0,
-        Kind::LdAcq => 1,
-        Kind::St => 2,
-        Kind::StRel => 3,
-        Kind::Mf => 4,
-    }
-}
-
 // The marks of rules 2, 3 and 4 for an earlier and a later kind.
 pub fn program_marks(earlier: Kind, later: Kind) -> u16
     ensures { λ r. ⌜ r ≡ programMarks (meant earlier) (meant later) ⌝ }
 {
-    let row = kind_number(earlier);
-    let column = kind_number(later);
+    let row = table_row(earlier);
+    let column = table_column(later);
     PROGRAM_ORDER[row][column]
 }
 

@@ -3,6 +3,7 @@ ghost use mathlib.Core.Path.{_≡_};
 ghost use Prim.Native.Nat.{_≤_};
 ghost use Rattle.relation_places.specs.Places.{placed, Placement, beforeBy};
 use record_decoded::position::Position;
+use record_decoded::types::OperationNo;
 use record_decoded::types::wide;
 
 // The place of an operation that does not stand.
@@ -15,19 +16,20 @@ pub struct Placing {
 }
 
 // The place of an operation.
-pub fn place_of(places: &[u8; Position::LIMIT], operation: usize) -> u8
-    ensures { λ r. ⌜ r ≡ placed (now (places .entry)) operation ⌝ }
+pub fn place_of(places: &[u8; Position::LIMIT], operation: OperationNo) -> u8
+    ensures { λ r. ⌜ r ≡ placed (now (places .entry)) (operation .0) ⌝ }
 {
-    if operation < Position::LIMIT {
-        places[operation]
+    let o = operation.0;
+    if o < Position::LIMIT {
+        places[o]
     } else {
         ABSENT
     }
 }
 
 // Whether operation a stands, and b stands later or not at all.
-pub fn before(places: &[u8; Position::LIMIT], a: usize, b: usize) -> bool
-    ensures { λ r. ⌜ r ≡ beforeBy (now (places .entry)) a b ⌝ }
+pub fn before(places: &[u8; Position::LIMIT], a: OperationNo, b: OperationNo) -> bool
+    ensures { λ r. ⌜ r ≡ beforeBy (now (places .entry)) (a .0) (b .0) ⌝ }
 {
     place_of(places, a) < place_of(places, b)
 }

@@ -9,8 +9,8 @@ use lib.Dec.{eqb, leb, ltb}
 use Rattle.base.specs.Lists.{any, member}
 use Rattle.base.specs.Below.{anyBelow}
 use Rattle.base.specs.Bits.{bit}
-use Rattle.model.specs.Execution.{isStore, isRelease, kindOf, stores, operations}
-use Rattle.model.specs.Rules.{linked, inWB, remoteOf, accesses}
+use Rattle.model.specs.Execution.{Kind, isStore, isRelease, kindOf, LV, RV, stores, operations, numberFrom, numberOf}
+use Rattle.model.specs.Rules.{linked, inWB, RV-own, remoteOf, accesses}
 use Rattle.record_decoded.specs.declared.types.Execution.{Execution}
 use Rattle.record_decoded.specs.Decoded.{instructionAt, executionOf}
 use Rattle.relation_marks.specs.Marks.{hasMark, conflictMark, bypassMark, markAt}
@@ -19,9 +19,19 @@ use Rattle.relation_links.specs.Operations.{operationAt}
 use Rattle.relation_links.specs.Compiled.{Compiled}
 use Rattle.search_sets.specs.Set.{holds}
 
+-- the words of a row, of all 128 rows, and of these with the words of memory behind them
+abbrev pub rowLength : ℕ
+rowLength = 17
+
+abbrev pub rowsLength : ℕ
+rowsLength = 128 * rowLength
+
+abbrev pub tableLength : ℕ
+tableLength = rowsLength + 128
+
 -- word f of the row of operation x
 abbrev pub field : List ℕ → ℕ → ℕ → ℕ
-field rows f x = getD rows (17 * x + f) 0
+field rows f x = getD rows (rowLength * x + f) 0
 
 -- operation a is in the set of words f and f + 1
 abbrev pub setBy : List ℕ → ℕ → ℕ → ℕ → Bool
@@ -92,7 +102,7 @@ wordsFrom rows words (x ∷ xs) = wordsFrom rows (wordsWith rows words x) xs
 
 -- the words before any operation stand behind the rows
 abbrev pub firstWords : List ℕ → List ℕ
-firstWords rows = take 128 (drop 2176 rows)
+firstWords rows = take 128 (drop rowsLength rows)
 
 -- the words after the operations of a prefix
 abbrev pub wordsAfter : List ℕ → List ℕ → List ℕ
@@ -125,10 +135,12 @@ abbrev pub writes : ℕ → Bool
 writes role = eqb role 1 || leb 3 role
 
 -- The operation for which one with a role may have to wait because of an instruction, by the marks of the two: of a conflicting store the RV to the same
--- processor, for an R the own RV of a UC store.
-unfoldable pub awaitedBy : ℕ → ℕ → ℕ → ℕ → ℕ → Bool
-awaitedBy marks role first processor a =
-    cond (eqb role 0) (hasMark marks bypassMark && eqb a (1 + first + processor)) (leb 3 role && (hasMark marks conflictMark && eqb a (1 + first + (role - 3))))
+-- processor, for an R the own RV of a UC store. The instruction is given by its
+-- kind, the number of its first operation and its processor.
+unfoldable pub awaitedBy : ℕ → ℕ → Kind → ℕ → ℕ → ℕ → Bool
+awaitedBy marks role kind first processor a =
+    cond (eqb role 0) (hasMark marks bypassMark && eqb a (numberFrom first kind (RV processor)))
+    (leb 3 role && (hasMark marks conflictMark && eqb a (numberFrom first kind (RV (role - 3)))))
 
 module _ (x : Execution) (t : Operations) (marks : List (List ℕ)) (o : ℕ) where
   abbrev pub owner : ℕ
@@ -145,7 +157,8 @@ module _ (x : Execution) (t : Operations) (marks : List (List ℕ)) (o : ℕ) wh
 
   -- o may have to wait for a because of instruction v
   abbrev pub awaitedOf : ℕ → ℕ → Bool
-  awaitedOf v a = awaitedBy (markAt marks v owner) role (getD (x .instructions .firsts) v 0) (getD (x .instructions .processors) v 0) a
+  awaitedOf v a =
+      awaitedBy (markAt marks v owner) role (kindOf (getD (x .instructions .kinds) v 0)) (getD (x .instructions .firsts) v 0) (getD (x .instructions .processors) v 0) a
 
   -- instruction v is a store of o's processor to its line
   abbrev pub storesToLine : ℕ → Bool
@@ -155,7 +168,7 @@ module _ (x : Execution) (t : Operations) (marks : List (List ℕ)) (o : ℕ) wh
 
   -- o is an R, and a the own RV of such a store v
   abbrev pub bypassOf : ℕ → ℕ → Bool
-  bypassOf v a = eqb role 0 && (storesToLine v && eqb a (1 + getD (x .instructions .firsts) v 0 + getD (x .instructions .processors) v 0))
+  bypassOf v a = eqb role 0 && (storesToLine v && eqb a (RV-own (instructionAt (x .instructions) v)))
 
   pub record RowOf (row : ℕ → ℕ) : Type 0 where
     pub preds-are : (a : ℕ) → a < 128
@@ -171,8 +184,8 @@ module _ (x : Execution) (t : Operations) (marks : List (List ℕ)) (o : ℕ) wh
     pub reads-data : (i : ℕ) → i < 64 → bit (row 12) i ≡ (eqb role 0 && dataBit x owner i)
     pub reads-visible : role ≡ 0 → row 13 ≡ visibleAt processor line
     pub reads-own : role ≡ 0 → row 14 ≡ ownAt processor line
-    pub own-is : row 15 ≡ cond (writes role) (1 + getD (x .instructions .firsts) owner 0 + processor) o
-    pub local-is : row 16 ≡ cond (writes role) (getD (x .instructions .firsts) owner 0) o
+    pub own-is : row 15 ≡ cond (writes role) (RV-own (instructionAt (x .instructions) owner)) o
+    pub local-is : row 16 ≡ cond (writes role) (numberOf (instructionAt (x .instructions) owner) LV) o
 
 -- bytes are below 256
 abbrev pub Bytes : List ℕ → Type 0
@@ -187,7 +200,7 @@ Initial x words =
 pub record RowsMean (x : Execution) (t : Operations) (marks : List (List ℕ)) (rows : List ℕ) : Type 0 where
   pub compiled : Compiled x t marks
   pub rowed : (o : ℕ) → o < operations (executionOf x) → RowOf x t marks o (λ f. field rows f o)
-  pub whole : length rows ≡ 2304
+  pub whole : length rows ≡ tableLength
   pub starts : Initial x (firstWords rows)
   pub data-bytes : Bytes (x .instructions .bytes)
   pub initial-bytes : Bytes (x .lines .initial)

@@ -6,11 +6,13 @@ ghost use lib.ListN.{length, getD, set};
 ghost use Rattle.base.specs.Below.{allBelow, anyBelow};
 ghost use Rattle.base.specs.Bits.{bit};
 ghost use Rattle.search_sets.specs.Set.{holds};
-ghost use Rattle.search_admit.specs.Rows.{field, writtenBits, writtenWord, localOf, wordsWith};
+ghost use Rattle.search_admit.specs.Rows.{rowLength, field, writtenBits, writtenWord, localOf, wordsWith};
 ghost use lib.Dec.{ltb};
 ghost use Rattle.search_admit.specs.Fits.{bothOrNeither, waitsFor, refused, localBit, readsRecorded, enabled};
 use record_decoded::position::Position;
+use record_decoded::types::OperationNo;
 use relation_places::before;
+use search_sets::BOUND;
 use search_sets::Set;
 use search_sets::first;
 use search_sets::has;
@@ -54,49 +56,56 @@ pub const WORDS: usize = 128;
 pub const TABLE: usize = ROWS + WORDS;
 
 // Word f of the row of operation x.
-pub fn field_of(rows: &[u64; TABLE], x: usize, f: usize) -> u64
-    requires { ⌜ (x < 128) × (f < 17) ⌝ }
-    ensures { λ r. ⌜ r ≡ field (now (rows .entry)) f x ⌝ }
+pub fn field_of(rows: &[u64; TABLE], x: OperationNo, f: usize) -> u64
+    requires { ⌜ (x .0 < 128) × (f < rowLength) ⌝ }
+    ensures { λ r. ⌜ r ≡ field (now (rows .entry)) f (x .0) ⌝ }
 {
-    rows[ROW * x + f]
+    let at = x.0;
+    rows[ROW * at + f]
 }
 
 // A word of memory.
 fn word_at(words: &[u64; WORDS], at: u64) -> u64
     ensures { λ r. ⌜ r ≡ getD (now (words .entry)) (at % 128) 0 ⌝ }
 {
-    words[(at % 128) as usize]
+    words[(at % WORDS as u64) as usize]
 }
 
 // The set in words f and f + 1 of the row of operation x.
-pub fn set_of(rows: &[u64; TABLE], x: usize, f: usize) -> Set
-    requires { ⌜ (x < 128) × (f < 16) ⌝ }
-    ensures { λ r. ⌜ (r .lo ≡ field (now (rows .entry)) f x) × (r .hi ≡ field (now (rows .entry)) (f + 1) x) ⌝ }
+pub fn set_of(rows: &[u64; TABLE], x: OperationNo, f: usize) -> Set
+    requires { ⌜ (x .0 < 128) × (f < 16) ⌝ }
+    ensures { λ r. ⌜ (r .lo ≡ field (now (rows .entry)) f (x .0)) × (r .hi ≡ field (now (rows .entry)) (f + 1) (x .0)) ⌝ }
 {
-    let lo = rows[ROW * x + f];
-    let hi = rows[ROW * x + (f + 1)];
+    let at = x.0;
+    let lo = rows[ROW * at + f];
+    let hi = rows[ROW * at + (f + 1)];
     Set { lo, hi }
 }
 
 // Whether operation x must wait for operation m, which does not stand.
-fn waits_for(rows: &[u64; TABLE], places: &[u8; Position::LIMIT], x: usize, m: usize) -> bool
-    requires { ⌜ (x < 128) × (m < 128) ⌝ }
-    ensures { λ r. ⌜ r ≡ waitsFor (now (rows .entry)) (now (places .entry)) x m ⌝ }
+fn waits_for(
+    rows: &[u64; TABLE],
+    places: &[u8; Position::LIMIT],
+    x: OperationNo,
+    m: OperationNo,
+) -> bool
+    requires { ⌜ (x .0 < 128) × (m .0 < 128) ⌝ }
+    ensures { λ r. ⌜ r ≡ waitsFor (now (rows .entry)) (now (places .entry)) (x .0) (m .0) ⌝ }
 {
     let own_m = field_of(rows, m, OWN) as usize;
     let own_x = field_of(rows, x, OWN) as usize;
-    if before(places, own_m, own_x) {
+    if before(places, OperationNo(own_m), OperationNo(own_x)) {
         return true;
     }
-    if own_m != m {
+    if own_m != m.0 {
         return false;
     }
-    if own_x != x {
+    if own_x != x.0 {
         return false;
     }
     let local_m = field_of(rows, m, LOCAL) as usize;
     let local_x = field_of(rows, x, LOCAL) as usize;
-    before(places, local_m, local_x)
+    before(places, OperationNo(local_m), OperationNo(local_x))
 }
 
 // Whether operation x must wait for one of those that are missing.
@@ -104,14 +113,14 @@ fn waits_for_any(
     rows: &[u64; TABLE],
     places: &[u8; Position::LIMIT],
     missing: Set,
-    x: usize,
+    x: OperationNo,
 ) -> bool
-    requires { ⌜ x < 128 ⌝ }
-    ensures { λ r. ⌜ r ≡ anyBelow 128 (λ (m : ℕ). holds (missing .lo) (missing .hi) m && waitsFor (now (rows .entry)) (now (places .entry)) x m) ⌝ }
+    requires { ⌜ x .0 < 128 ⌝ }
+    ensures { λ r. ⌜ r ≡ anyBelow 128 (λ (m : ℕ). holds (missing .lo) (missing .hi) m && waitsFor (now (rows .entry)) (now (places .entry)) (x .0) m) ⌝ }
 {
     let mut m = first(missing, 0);
-    while m < 128 {
-        if waits_for(rows, places, x, m) {
+    while m < BOUND {
+        if waits_for(rows, places, x, OperationNo(m)) {
             return true;
         }
         let from = m + 1;
@@ -121,9 +130,14 @@ fn waits_for_any(
 }
 
 // Rules 9, 10 and 14: whether operation x must wait for an operation that does not stand. Mostly none is missing, so that is asked first.
-pub fn is_refused(rows: &[u64; TABLE], places: &[u8; Position::LIMIT], stand: Set, x: usize) -> bool
-    requires { ⌜ x < 128 ⌝ }
-    ensures { λ r. ⌜ r ≡ refused (now (rows .entry)) (now (places .entry)) (stand .lo) (stand .hi) x ⌝ }
+pub fn is_refused(
+    rows: &[u64; TABLE],
+    places: &[u8; Position::LIMIT],
+    stand: Set,
+    x: OperationNo,
+) -> bool
+    requires { ⌜ x .0 < 128 ⌝ }
+    ensures { λ r. ⌜ r ≡ refused (now (rows .entry)) (now (places .entry)) (stand .lo) (stand .hi) (x .0) ⌝ }
 {
     let awaited = set_of(rows, x, AWAITED);
     if subset(awaited, stand) {
@@ -133,12 +147,12 @@ pub fn is_refused(rows: &[u64; TABLE], places: &[u8; Position::LIMIT], stand: Se
 }
 
 // The bits that the store of m wrote, where its LV stands.
-fn bits_of(rows: &[u64; TABLE], stand: Set, m: usize) -> u64
-    requires { ⌜ m < 128 ⌝ }
-    ensures { λ r. ⌜ ((i : ℕ) → bit r i ≡ (ltb (localOf (now (rows .entry)) m) 128 && holds (stand .lo) (stand .hi) (localOf (now (rows .entry)) m) && bit (writtenBits (now (rows .entry)) m) i)) ⌝ }
+fn bits_of(rows: &[u64; TABLE], stand: Set, m: OperationNo) -> u64
+    requires { ⌜ m .0 < 128 ⌝ }
+    ensures { λ r. ⌜ ((i : ℕ) → bit r i ≡ (ltb (localOf (now (rows .entry)) (m .0)) 128 && holds (stand .lo) (stand .hi) (localOf (now (rows .entry)) (m .0)) && bit (writtenBits (now (rows .entry)) (m .0)) i)) ⌝ }
 {
     let local = field_of(rows, m, LOCAL) as usize;
-    if local >= 128 {
+    if local >= Position::LIMIT {
         return 0;
     }
     if !has(stand, local) {
@@ -153,8 +167,8 @@ fn pending_bits(rows: &[u64; TABLE], stand: Set, missing: Set) -> u64
 {
     let mut bits = 0;
     let mut m = first(missing, 0);
-    while m < 128 {
-        bits |= bits_of(rows, stand, m);
+    while m < BOUND {
+        bits |= bits_of(rows, stand, OperationNo(m));
         let from = m + 1;
         m = first(missing, from);
     }
@@ -162,9 +176,9 @@ fn pending_bits(rows: &[u64; TABLE], stand: Set, missing: Set) -> u64
 }
 
 // The bits that the R x reads from what its own processor wrote. Mostly no store is missing, so that is asked first.
-fn local_bits(rows: &[u64; TABLE], stand: Set, x: usize) -> u64
-    requires { ⌜ x < 128 ⌝ }
-    ensures { λ r. ⌜ ((i : ℕ) → bit r i ≡ localBit (now (rows .entry)) (stand .lo) (stand .hi) x i) ⌝ }
+fn local_bits(rows: &[u64; TABLE], stand: Set, x: OperationNo) -> u64
+    requires { ⌜ x .0 < 128 ⌝ }
+    ensures { λ r. ⌜ ((i : ℕ) → bit r i ≡ localBit (now (rows .entry)) (stand .lo) (stand .hi) (x .0) i) ⌝ }
 {
     let stores = set_of(rows, x, BYPASSES);
     if subset(stores, stand) {
@@ -182,9 +196,9 @@ fn agrees(own: u64, visible: u64, local: u64, data: u64, bits: u64) -> bool
 }
 
 // Rule 11: whether operation x reads what is recorded.
-fn reads_right(rows: &[u64; TABLE], words: &[u64; WORDS], stand: Set, x: usize) -> bool
-    requires { ⌜ x < 128 ⌝ }
-    ensures { λ r. ⌜ r ≡ readsRecorded (now (rows .entry)) (stand .lo) (stand .hi) (now (words .entry)) x ⌝ }
+fn reads_right(rows: &[u64; TABLE], words: &[u64; WORDS], stand: Set, x: OperationNo) -> bool
+    requires { ⌜ x .0 < 128 ⌝ }
+    ensures { λ r. ⌜ r ≡ readsRecorded (now (rows .entry)) (stand .lo) (stand .hi) (now (words .entry)) (x .0) ⌝ }
 {
     let bits = field_of(rows, x, READ_BITS);
     if bits == 0 {
@@ -197,9 +211,9 @@ fn reads_right(rows: &[u64; TABLE], words: &[u64; WORDS], stand: Set, x: usize) 
 }
 
 // Whether what must stand before operation x stands, and x reads what is recorded: `stand` has the operations that stand, `words` what they wrote.
-pub fn is_enabled(rows: &[u64; TABLE], words: &[u64; WORDS], stand: Set, x: usize) -> bool
-    requires { ⌜ x < 128 ⌝ }
-    ensures { λ r. ⌜ r ≡ enabled (now (rows .entry)) (stand .lo) (stand .hi) (now (words .entry)) x ⌝ }
+pub fn is_enabled(rows: &[u64; TABLE], words: &[u64; WORDS], stand: Set, x: OperationNo) -> bool
+    requires { ⌜ x .0 < 128 ⌝ }
+    ensures { λ r. ⌜ r ≡ enabled (now (rows .entry)) (stand .lo) (stand .hi) (now (words .entry)) (x .0) ⌝ }
 {
     if !subset(set_of(rows, x, PREDS), stand) {
         return false;
@@ -208,9 +222,9 @@ pub fn is_enabled(rows: &[u64; TABLE], words: &[u64; WORDS], stand: Set, x: usiz
 }
 
 // Whether operation x is enabled before any operation stands: nothing must stand before it, and it reads what its own processor has not written.
-pub fn is_enabled_first(rows: &[u64; TABLE], words: &[u64; WORDS], x: usize) -> bool
-    requires { ⌜ x < 128 ⌝ }
-    ensures { λ r. ⌜ r ≡ enabled (now (rows .entry)) 0 0 (now (words .entry)) x ⌝ }
+pub fn is_enabled_first(rows: &[u64; TABLE], words: &[u64; WORDS], x: OperationNo) -> bool
+    requires { ⌜ x .0 < 128 ⌝ }
+    ensures { λ r. ⌜ r ≡ enabled (now (rows .entry)) 0 0 (now (words .entry)) (x .0) ⌝ }
 {
     let none = Set { lo: 0, hi: 0 };
     if !subset(set_of(rows, x, PREDS), none) {
@@ -223,11 +237,11 @@ pub fn is_enabled_first(rows: &[u64; TABLE], words: &[u64; WORDS], x: usize) -> 
 }
 
 // Writes what operation x writes, and answers with the word that was there.
-pub fn write(rows: &[u64; TABLE], words: &mut [u64], x: usize) -> u64
-    requires { ⌜ (x < 128) × (length (now words) ≡ 128) ⌝ }
-    ensures { λ r. ⌜ (r ≡ getD (now (words .entry)) (writtenWord (now (rows .entry)) x) 0) × (now (words .exit) ≡ wordsWith (now (rows .entry)) (now (words .entry)) x) ⌝ }
+pub fn write(rows: &[u64; TABLE], words: &mut [u64], x: OperationNo) -> u64
+    requires { ⌜ (x .0 < 128) × (length (now words) ≡ 128) ⌝ }
+    ensures { λ r. ⌜ (r ≡ getD (now (words .entry)) (writtenWord (now (rows .entry)) (x .0)) 0) × (now (words .exit) ≡ wordsWith (now (rows .entry)) (now (words .entry)) (x .0)) ⌝ }
 {
-    let at = (field_of(rows, x, WRITTEN_WORD) % 128) as usize;
+    let at = (field_of(rows, x, WRITTEN_WORD) % WORDS as u64) as usize;
     let old = words[at];
     let kept = old ^ (old & field_of(rows, x, WRITTEN_BITS));
     words[at] = kept | field_of(rows, x, WRITTEN_DATA);
@@ -235,10 +249,10 @@ pub fn write(rows: &[u64; TABLE], words: &mut [u64], x: usize) -> u64
 }
 
 // Puts back the word that operation x wrote over.
-pub fn unwrite(rows: &[u64; TABLE], words: &mut [u64], x: usize, old: u64)
-    requires { ⌜ (x < 128) × (length (now words) ≡ 128) ⌝ }
-    ensures { λ _. ⌜ now (words .exit) ≡ set (now (words .entry)) (writtenWord (now (rows .entry)) x) old ⌝ }
+pub fn unwrite(rows: &[u64; TABLE], words: &mut [u64], x: OperationNo, old: u64)
+    requires { ⌜ (x .0 < 128) × (length (now words) ≡ 128) ⌝ }
+    ensures { λ _. ⌜ now (words .exit) ≡ set (now (words .entry)) (writtenWord (now (rows .entry)) (x .0)) old ⌝ }
 {
-    let at = (field_of(rows, x, WRITTEN_WORD) % 128) as usize;
+    let at = (field_of(rows, x, WRITTEN_WORD) % WORDS as u64) as usize;
     words[at] = old;
 }

@@ -15,6 +15,7 @@ ghost use Rattle.search_call.specs.declared.call.SearchAnswer.the-varian
 use record_decoded::position::saved_position;
 use record_decoded::position::write_position;
 use record_decoded::types::Execution;
+use record_decoded::types::MOST_INSTRUCTIONS;
 use record_reader::reader::Answer;
 use record_reader::reader::read;
 use relation_links::operations::Operations;
@@ -66,7 +67,7 @@ fn answer_of(verdict: Verdict) -> SearchAnswer
 fn search_on(
     x: Execution,
     t: Operations,
-    marks: &[[u16; 40]; 40],
+    marks: &[[u16; MOST_INSTRUCTIONS]; MOST_INSTRUCTIONS],
     buffer: &mut [u8],
     saved: usize,
     allowance: u32,

@@ -1,9 +1,9 @@
 -- The operations of each instruction, together, are those of the table.
-use Prim.Native.Nat.{ℕ, zero, suc, _+_, _-_, _<_}
+use Prim.Native.Nat.{ℕ, _+_, _-_, _<_}
 use native.Mathlib.Omega.{arith}
-use mathlib.Core.Path.{_≡_, refl, sym, ap, ap₂, _∙_, subst}
+use mathlib.Core.Path.{_≡_, sym, ap, ap₂, _∙_, subst}
 use mathlib.Core.Bool.{Bool, true, _&&_}
-use mathlib.Core.List.{List, [], _∷_, List·Memᴰ, List·Memᴰ·head, List·Memᴰ·tail, Memᴰ·map, Memᴰ·of-map}
+use mathlib.Core.List.{List, List·Memᴰ, Memᴰ·map, Memᴰ·of-map}
 use lib.ListN.{length, getD}
 use lib.Dec.{leb, ltb}
 use borrow.Author.Tests.{le-leb, leb-true, lt-ltb, ltb-true}
@@ -68,7 +68,7 @@ module _ {x : Execution} {t : Operations} {marks : List (List ℕ)} (h : Compile
         let l2 = ltb-true a (first + length (rolesOf v)) u3 in
         let r = getD (rolesOf v) (a - first) F in
         let short : a - first < length (rolesOf v) = omega arith in
-        let (there, q) = listed v l r (getD-member (rolesOf v) (a - first) F short) a (role-number (x .processors) (its v) (kindOf (getD (x .instructions .kinds) v 0)) (a - first) short ∙ omega arith) in
+        let (there, q) = listed v l r (getD-member (rolesOf v) (a - first) F short) a (role-number (x .processors) (its v) (a - first) short ∙ omega arith) in
         and-both (lt-ltb a (t .count) there)
         (ap₂ linkedAs (ap (λ (b : Operation). b .instruction .number) q) (ap (λ (b : Operation). b .role) q) ∙ u4)
 
@@ -82,7 +82,7 @@ module _ {x : Execution} {t : Operations} {marks : List (List ℕ)} (h : Compile
         let first = getD (x .instructions .firsts) owner 0 in
         let n : a ≡ first + j =
         operation-number (executionOf x) (operationAt (x .instructions) t a) m ∙ ap (numberOf (its owner)) (sym e)
-        ∙ role-number (x .processors) (its owner) (kindOf (getD (x .instructions .kinds) owner 0)) j short in
+        ∙ role-number (x .processors) (its owner) j short in
         let z : a - first ≡ j = omega arith in
         any-passes fromIts (x .instructions .count) owner (owner-there h a there)
         (and-both (le-leb first a (omega arith))

@@ -1,23 +1,24 @@
 -- Which operations of an instruction some rule links to an operation with a role.
-use Prim.Native.Nat.{ℕ, zero, suc, _+_, _-_, _/_, _%_, _≤_, _<_}
+use Prim.Native.Nat.{ℕ, suc, _+_, _-_, _/_, _%_, _≤_, _<_}
 use native.Mathlib.Omega.{arith}
 use mathlib.Core.Path.{_≡_, refl, sym, ap, ap₂, _∙_}
 use mathlib.Core.Bool.{Bool, true, false, not, _&&_, _||_, and-true, and-false, or-false}
 use lib.ListN.{length, getD}
 use lib.Dec.{eqb, leb, ltb}
-use borrow.Author.Tests.{eq-eqb, ne-eqb, eqb-true, eqb-false, le-leb, lt-leb, leb-true, lt-ltb, ltb-true}
+use borrow.Author.Tests.{eq-eqb, ne-eqb, eqb-true, eqb-false, le-leb, leb-true, lt-ltb, ltb-true}
 use Rattle.base.specs.Below.{anyBelow}
-use Rattle.base.proofs.Bools.{agree, split, is-false, and-parts, and-both, or-right}
-use Rattle.model.specs.Execution.{Kind, isStore, Role, F, RV, roles}
-use Rattle.model.specs.Rules.{hasRoleRV}
+use Rattle.base.proofs.Tests.{any-passes, any-below-same, some-at}
+use Rattle.base.proofs.Bools.{agree, split, clash, is-false, and-parts, and-both, or-cases, or-right}
+use Rattle.model.specs.Execution.{Kind, isStore, Role, F, RV, hasRoleRV, roles, remotesAt, numberFrom}
 use Rattle.record_decoded.specs.Kinds.{roleNumbered}
-use Rattle.record_decoded.proofs.Counts.{store-operations, other-operations, store-later}
+use Rattle.record_decoded.proofs.RoleNumbers.{role-RV, remote-numbered}
+use Rattle.model.proofs.Numbers.{one-alone, store-count, other-count, remote-role}
 use Rattle.relation_marks.specs.Marks.{hasMark}
 use Rattle.relation_links.specs.Links.{ruleMark, rolesLink, linkBy}
 use Rattle.relation_links.specs.Linked.{linkedBy}
+use Rattle.relation_links.proofs.RoleLaws.{not-rv}
 use Rattle.relation_links.proofs.LinkedLaws.{rule-links, no-mark, from-remote}
-use Rattle.search_sets.specs.Set.{holds}
-use Rattle.search_constraints.specs.Rows.{remoteLinked, linkedFrom}
+use Rattle.search_constraints.specs.Rows.{isRemote, remoteLinked, linkedFrom}
 
 -- Tests
 
@@ -25,52 +26,9 @@ or-more : (s b c : Bool) {d : Bool} → (b || c) ≡ d → ((s || b) || c) ≡ (
 or-more true b c h = refl
 or-more false b c h = h
 
-or-cases : {C : Type 0} (a b : Bool) → (a || b) ≡ true → (a ≡ true → C) → (b ≡ true → C) → C
-or-cases true b h f g = f refl
-or-cases false b h f g = g h
-
 -- what adds nothing
 pub nothing-more : (s : Bool) {d : Bool} → d ≡ false → s ≡ (s || d)
 nothing-more s h = sym (ap (λ (b : Bool). s || b) h ∙ or-false s)
-
--- the RVs of a store, one after the other
-pub record Spread (first n lo₀ hi₀ q lo hi : ℕ) : Type 0 where
-  pub few : q ≤ n
-  pub has : (a : ℕ) → a < 128 → holds lo hi a ≡ (holds lo₀ hi₀ a || (leb (1 + first) a && ltb a (1 + first + q)))
-
-pub spread-none : {first n lo hi : ℕ} → Spread first n lo hi 0 lo hi
-spread-none {first} {n} {lo} {hi} = record {
-  few = omega arith;
-  has = λ a l. nothing-more (holds lo hi a) (is-false (leb (1 + first) a && ltb a (1 + first + 0))
-      (λ t. let (h, k) = and-parts (leb (1 + first) a) (ltb a (1 + first + 0)) t in omega (arith, leb-true (1 + first) a h, ltb-true a (1 + first + 0) k)));
-}
-
-pub spread-more : {first n lo₀ hi₀ q lo hi : ℕ} → Spread first n lo₀ hi₀ q lo hi → q < n → (lo' hi' : ℕ)
-    → ((a : ℕ) → a < 128 → holds lo' hi' a ≡ (holds lo hi a || (true && eqb a (1 + first + q)))) → Spread first n lo₀ hi₀ (q + 1) lo' hi'
-spread-more {first} {n} {lo₀} {hi₀} {q} {lo} {hi} inv l lo' hi' f = record {
-  few = omega arith;
-  has = λ a s. f a s ∙ ap (λ (b : Bool). b || eqb a (1 + first + q)) (inv .has a s) ∙ or-more (holds lo₀ hi₀ a) (leb (1 + first) a && ltb a (1 + first + q)) (eqb a (1 + first + q)) (one a);
-}
-  where
-    one : (a : ℕ) → ((leb (1 + first) a && ltb a (1 + first + q)) || eqb a (1 + first + q)) ≡ (leb (1 + first) a && ltb a (1 + first + (q + 1)))
-    one a = agree ((leb (1 + first) a && ltb a (1 + first + q)) || eqb a (1 + first + q)) (leb (1 + first) a && ltb a (1 + first + (q + 1)))
-        (λ t. or-cases (leb (1 + first) a && ltb a (1 + first + q)) (eqb a (1 + first + q)) t
-        (λ u. let (h, k) = and-parts (leb (1 + first) a) (ltb a (1 + first + q)) u in and-both h (lt-ltb a (1 + first + (q + 1)) (omega (arith, ltb-true a (1 + first + q) k))))
-        (λ u. let e = eqb-true a (1 + first + q) u in and-both (le-leb (1 + first) a (omega arith)) (lt-ltb a (1 + first + (q + 1)) (omega arith))))
-        (λ t. let (h, k) = and-parts (leb (1 + first) a) (ltb a (1 + first + (q + 1))) t in
-        split (eqb a (1 + first + q)) (λ u. or-right (leb (1 + first) a && ltb a (1 + first + q)) (eqb a (1 + first + q)) u)
-        (λ u. ap (λ (b : Bool). b || eqb a (1 + first + q)) (and-both h (lt-ltb a (1 + first + q) (omega (arith, ltb-true a (1 + first + (q + 1)) k, eqb-false a (1 + first + q) u))))))
-
-pub spread : {first n lo₀ hi₀ q lo hi : ℕ} → Spread first n lo₀ hi₀ q lo hi → n ≤ q → (a : ℕ) → a < 128
-    → holds lo hi a ≡ (holds lo₀ hi₀ a || (leb (1 + first) a && ltb a (1 + first + n)))
-spread {first} {n} {lo₀} {hi₀} {q} inv h a s = inv .has a s ∙ ap (λ (k : ℕ). holds lo₀ hi₀ a || (leb (1 + first) a && ltb a (1 + first + k))) (let z : q ≡ n = omega (arith, inv .few) in z)
-
--- from 3 on a role is an RV
-role-RV : (k : ℕ) → 3 ≤ k → roleNumbered k ≡ RV (k - 3)
-role-RV zero h = absurd (omega arith)
-role-RV (suc zero) h = absurd (omega arith)
-role-RV (suc (suc zero)) h = absurd (omega arith)
-role-RV (suc (suc (suc q))) h = ap RV (omega arith)
 
 -- from an RV only rules 1, 3 and 4 link
 module _ (m p q : ℕ) (b : Role) where
@@ -104,83 +62,93 @@ in-turn true true x = sym (and-true x)
 in-turn true false x = sym (and-false x)
 in-turn false e x = refl
 
-spread-and : (l r c d : Bool) → (l && (r && (c || d))) ≡ ((l && (r && c)) || (l && (r && d)))
-spread-and true true c d = refl
-spread-and true false c d = refl
-spread-and false r c d = refl
-
-module _ (m p first n a : ℕ) where
-  abbrev q : ℕ
-  q = a - (1 + first)
+module _ (m : ℕ) (k : Kind) (p first n a : ℕ) where
+  abbrev number : ℕ → ℕ
+  number q = numberFrom first k (RV q)
 
   -- with a fence all RVs
-  pub fence-links : (role : ℕ) → hasMark m 8 ≡ true → (leb (1 + first) a && ltb a (1 + first + n)) ≡ remoteLinked m p first n role a
-  unfolding remoteLinked
-  fence-links role h =
-      ap (λ (b : Bool). leb (1 + first) a && b) (sym (ap (λ (b : Bool). ltb a (1 + first + n) && b) linked ∙ and-true (ltb a (1 + first + n))))
+  pub fence-links : (role : ℕ) → hasMark m 8 ≡ true → isRemote k first n a ≡ remoteLinked m k p first n role a
+  unfolding isRemote remoteLinked
+  fence-links role h = any-below-same _ _ n (λ q l. sym (ap (λ (b : Bool). eqb a (number q) && b) (linked q) ∙ and-true (eqb a (number q))))
     where
-      linked : linkedBy m p (RV q) (roleNumbered role) ≡ true
-      linked = remote-by m p q (roleNumbered role) ∙ ap (λ (c : Bool). (hasMark m 1 && (eqb q p && hasRoleRV (roleNumbered role) (λ k. not (eqb k p)))) || ((hasMark m 4 && hasRoleRV (roleNumbered role) (eqb q)) || c)) h
+      linked : (q : ℕ) → linkedBy m p (RV q) (roleNumbered role) ≡ true
+      linked q = remote-by m p q (roleNumbered role) ∙ ap (λ (c : Bool). (hasMark m 1 && (eqb q p && hasRoleRV (roleNumbered role) (λ k. not (eqb k p)))) || ((hasMark m 4 && hasRoleRV (roleNumbered role) (eqb q)) || c)) h
           ∙ or-right (hasMark m 1 && (eqb q p && hasRoleRV (roleNumbered role) (λ k. not (eqb k p)))) ((hasMark m 4 && hasRoleRV (roleNumbered role) (eqb q)) || true) (or-right (hasMark m 4 && hasRoleRV (roleNumbered role) (eqb q)) true refl)
 
   -- without one only to an RV
-  no-remote : (b : Role) → ((t : ℕ → Bool) → hasRoleRV b t ≡ false) → hasMark m 8 ≡ false → linkedBy m p (RV q) b ≡ false
-  no-remote b h f =
+  no-remote : (q : ℕ) (b : Role) → ((t : ℕ → Bool) → hasRoleRV b t ≡ false) → hasMark m 8 ≡ false → linkedBy m p (RV q) b ≡ false
+  no-remote q b h f =
       remote-by m p q b
       ∙ ap₂ (λ (c d : Bool). (hasMark m 1 && (eqb q p && c)) || ((hasMark m 4 && d) || hasMark m 8)) (h (λ k. not (eqb k p))) (h (eqb q))
       ∙ ap₂ (λ (c d : Bool). (hasMark m 1 && c) || (d || hasMark m 8)) (and-false (eqb q p)) (and-false (hasMark m 4))
       ∙ ap₂ (λ (c d : Bool). c || d) (and-false (hasMark m 1)) f
 
-  no-RV : (role : ℕ) → role < 3 → (t : ℕ → Bool) → hasRoleRV (roleNumbered role) t ≡ false
-  no-RV zero l t = refl
-  no-RV (suc zero) l t = refl
-  no-RV (suc (suc zero)) l t = refl
-  no-RV (suc (suc (suc role))) l t = absurd (omega arith)
-
-  pub no-remotes : (role : ℕ) → role < 3 → hasMark m 8 ≡ false → remoteLinked m p first n role a ≡ false
+  pub no-remotes : (role : ℕ) → role < 3 → hasMark m 8 ≡ false → remoteLinked m k p first n role a ≡ false
   unfolding remoteLinked
   no-remotes role l f =
-      ap (λ (b : Bool). leb (1 + first) a && (ltb a (1 + first + n) && b)) (no-remote (roleNumbered role) (no-RV role l) f)
-      ∙ ap (λ (b : Bool). leb (1 + first) a && b) (and-false (ltb a (1 + first + n))) ∙ and-false (leb (1 + first) a)
+      is-false _ (λ t. let (q, s, h) = some-at _ n t in
+      clash (and-parts (eqb a (number q)) (linkedBy m p (RV q) (roleNumbered role)) h .1) (no-remote q (roleNumbered role) (λ t. sym (not-rv role t l)) f))
 
-  -- the RV to processor k, where there is one
-  one-remote : (g : Bool) (k : ℕ) → (leb (1 + first) a && (ltb a (1 + first + n) && (g && eqb q k))) ≡ ((g && ltb k n) && eqb a (1 + first + k))
-  one-remote g k = agree (leb (1 + first) a && (ltb a (1 + first + n) && (g && eqb q k))) ((g && ltb k n) && eqb a (1 + first + k))
-      (λ t. let (t1, t2) = and-parts (leb (1 + first) a) (ltb a (1 + first + n) && (g && eqb q k)) t in
-      let (t3, t4) = and-parts (ltb a (1 + first + n)) (g && eqb q k) t2 in
-      let (t5, t6) = and-parts g (eqb q k) t4 in
-      let e : a - (1 + first) ≡ k = eqb-true q k t6 in
-      let l1 = leb-true (1 + first) a t1 in
-      let l2 = ltb-true a (1 + first + n) t3 in
-      and-both (and-both t5 (lt-ltb k n (omega arith))) (eq-eqb a (1 + first + k) (omega arith)))
-      (λ t. let (t1, t2) = and-parts (g && ltb k n) (eqb a (1 + first + k)) t in
-      let (t3, t4) = and-parts g (ltb k n) t1 in
-      let e = eqb-true a (1 + first + k) t2 in
-      let l = ltb-true k n t4 in
-      and-both (le-leb (1 + first) a (omega arith)) (and-both (lt-ltb a (1 + first + n) (omega arith)) (and-both t3 (eq-eqb q k (omega arith)))))
+  -- to the RV to processor `to` from the own RV, and from the one to the same processor
+  linked-to : (q to : ℕ) → hasMark m 8 ≡ false → linkedBy m p (RV q) (RV to) ≡ (((hasMark m 1 && not (eqb to p)) && eqb q p) || (hasMark m 4 && eqb q to))
+  linked-to q to f =
+      remote-by m p q (RV to)
+      ∙ ap₂ (λ (c d : Bool). c || ((hasMark m 4 && eqb q to) || d)) (in-turn (hasMark m 1) (eqb q p) (not (eqb to p))) f
+      ∙ ap (λ (c : Bool). ((hasMark m 1 && not (eqb to p)) && eqb q p) || c) (or-false (hasMark m 4 && eqb q to))
+
+  -- the RV to processor j, where there is one
+  abbrev theRemote : Bool → ℕ → Bool
+  theRemote g j = (g && ltb j n) && eqb a (number j)
+
+  is-the : (g : Bool) (q j : ℕ) → q < n → eqb a (number q) ≡ true → (g && eqb q j) ≡ true → theRemote g j ≡ true
+  is-the g q j l h t =
+      let (t1, t2) = and-parts g (eqb q j) t in
+      let e = eqb-true q j t2 in
+      and-both (and-both t1 (lt-ltb j n (omega arith))) (eq-eqb a (number j) (eqb-true a (number q) h ∙ ap number e))
+
+  of-the : (g : Bool) (j : ℕ) → theRemote g j ≡ true → (j < n) × (eqb a (number j) ≡ true) × ((g && eqb j j) ≡ true)
+  of-the g j t =
+      let (t1, t2) = and-parts (g && ltb j n) (eqb a (number j)) t in
+      let (t3, t4) = and-parts g (ltb j n) t1 in
+      (ltb-true j n t4, t2, and-both t3 (eq-eqb j j refl))
 
   pub two-remotes : (to : ℕ) → hasMark m 8 ≡ false
-      → remoteLinked m p first n (3 + to) a ≡ ((((hasMark m 1 && not (eqb to p)) && ltb p n) && eqb a (1 + first + p)) || ((hasMark m 4 && ltb to n) && eqb a (1 + first + to)))
+      → remoteLinked m k p first n (3 + to) a ≡ (theRemote (hasMark m 1 && not (eqb to p)) p || theRemote (hasMark m 4) to)
   unfolding remoteLinked
   two-remotes to f =
-      ap (λ (b : Bool). leb (1 + first) a && (ltb a (1 + first + n) && b))
-      (ap (λ (k : ℕ). linkedBy m p (RV q) (roleNumbered k)) (let z : 3 + to ≡ suc (suc (suc to)) = omega arith in z)
-      ∙ remote-by m p q (RV to)
-      ∙ ap₂ (λ (c d : Bool). c || ((hasMark m 4 && eqb q to) || d)) (in-turn (hasMark m 1) (eqb q p) (not (eqb to p))) f
-      ∙ ap (λ (c : Bool). ((hasMark m 1 && not (eqb to p)) && eqb q p) || c) (or-false (hasMark m 4 && eqb q to)))
-      ∙ spread-and (leb (1 + first) a) (ltb a (1 + first + n)) ((hasMark m 1 && not (eqb to p)) && eqb q p) (hasMark m 4 && eqb q to)
-      ∙ ap₂ _||_ (one-remote (hasMark m 1 && not (eqb to p)) p) (one-remote (hasMark m 4) to)
+      any-below-same _ (λ q. eqb a (number q) && (own q || same q)) n (λ q l. ap (λ (b : Bool). eqb a (number q) && b) (by-role q ∙ linked-to q to f))
+      ∙ agree _ (theRemote (hasMark m 1 && not (eqb to p)) p || theRemote (hasMark m 4) to)
+      (λ t. let (q, l, h) = some-at (λ q. eqb a (number q) && (own q || same q)) n t in
+      let (h1, h2) = and-parts (eqb a (number q)) (own q || same q) h in
+      or-cases (own q) (same q) h2
+      (λ u. ap (λ (b : Bool). b || theRemote (hasMark m 4) to) (is-the (hasMark m 1 && not (eqb to p)) q p l h1 u))
+      (λ u. or-right (theRemote (hasMark m 1 && not (eqb to p)) p) (theRemote (hasMark m 4) to) (is-the (hasMark m 4) q to l h1 u)))
+      (λ t. or-cases (theRemote (hasMark m 1 && not (eqb to p)) p) (theRemote (hasMark m 4) to) t
+      (λ u. let (l, h, g) = of-the (hasMark m 1 && not (eqb to p)) p u in
+      any-passes (λ q. eqb a (number q) && (own q || same q)) n p l (and-both h (ap (λ (b : Bool). b || same p) g)))
+      (λ u. let (l, h, g) = of-the (hasMark m 4) to u in
+      any-passes (λ q. eqb a (number q) && (own q || same q)) n to l (and-both h (or-right (own to) (same to) g))))
+    where
+      own : ℕ → Bool
+      own q = (hasMark m 1 && not (eqb to p)) && eqb q p
+
+      same : ℕ → Bool
+      same q = hasMark m 4 && eqb q to
+
+      by-role : (q : ℕ) → linkedBy m p (RV q) (roleNumbered (3 + to)) ≡ linkedBy m p (RV q) (RV to)
+      by-role q = ap (linkedBy m p (RV q)) (remote-numbered to)
 
 -- the same by the values in the code
-pub two-linked : (m p first n a role to own same : ℕ) {h u w h' w' : Bool} → hasMark m 8 ≡ false → 3 ≤ role → to ≡ role - 3 → own ≡ p → same ≡ to
+pub two-linked : (m : ℕ) (k : Kind) (p first n a role to own same own-rv same-rv : ℕ) {h u w h' w' : Bool} → hasMark m 8 ≡ false → 3 ≤ role → to ≡ role - 3 → own ≡ p → same ≡ to
+    → own-rv ≡ numberFrom first k (RV own) → same-rv ≡ numberFrom first k (RV same)
     → h ≡ hasMark m 1 → u ≡ (h && not (eqb to p)) → w ≡ (u && ltb own n) → h' ≡ hasMark m 4 → w' ≡ (h' && ltb same n)
-    → remoteLinked m p first n role a ≡ ((w && eqb a (1 + first + own)) || (w' && eqb a (1 + first + same)))
-two-linked m p first n a role to own same {h} {u} {w} {h'} {w'} f l it o s eh eu ew eh' ew' =
-    ap (λ (k : ℕ). remoteLinked m p first n k a) (let z : role ≡ 3 + to = omega arith in z)
-    ∙ two-remotes m p first n a to f
+    → remoteLinked m k p first n role a ≡ ((w && eqb a own-rv) || (w' && eqb a same-rv))
+two-linked m k p first n a role to own same own-rv same-rv {h} {u} {w} {h'} {w'} f l it o s io is eh eu ew eh' ew' =
+    ap (λ (j : ℕ). remoteLinked m k p first n j a) (let z : role ≡ 3 + to = omega arith in z)
+    ∙ two-remotes m k p first n a to f
     ∙ sym (ap₂ _||_
-    (ap₂ (λ (b : Bool) (k : ℕ). b && eqb a (1 + first + k)) (ew ∙ ap₂ (λ (b : Bool) (k : ℕ). b && ltb k n) (eu ∙ ap (λ (b : Bool). b && not (eqb to p)) eh) o) o)
-    (ap₂ (λ (b : Bool) (k : ℕ). b && eqb a (1 + first + k)) (ew' ∙ ap₂ (λ (b : Bool) (k : ℕ). b && ltb k n) eh' s) s))
+    (ap₂ (λ (b : Bool) (j : ℕ). b && eqb a j) (ew ∙ ap₂ (λ (b : Bool) (j : ℕ). b && ltb j n) (eu ∙ ap (λ (b : Bool). b && not (eqb to p)) eh) o) (io ∙ ap (λ (j : ℕ). numberFrom first k (RV j)) o))
+    (ap₂ (λ (b : Bool) (j : ℕ). b && eqb a j) (ew' ∙ ap₂ (λ (b : Bool) (j : ℕ). b && ltb j n) eh' s) (is ∙ ap (λ (j : ℕ). numberFrom first k (RV j)) s)))
 
 -- two operations that go in
 pub both-in : (s c d : Bool) {r r' e : Bool} → r ≡ (s || c) → r' ≡ (r || d) → e ≡ (c || d) → r' ≡ (s || e)
@@ -204,19 +172,13 @@ module _ (m role : ℕ) where
   pub no-mark-to-remote : 3 ≤ role → m % 16 ≡ 0 → (p : ℕ) (a : Role) → linkedBy m p a (roleNumbered role) ≡ false
   no-mark-to-remote l h p a = ap (linkedBy m p a) (role-RV role l) ∙ to-remote p (role - 3) a h
 
--- two tests that agree where two others pass
-guarded : (b c : Bool) {y z : Bool} → (b ≡ true → c ≡ true → y ≡ z) → (b && (c && y)) ≡ (b && (c && z))
-guarded true true f = f refl refl
-guarded true false f = refl
-guarded false c f = refl
-
 -- the operations of an instruction of a kind
 module _ (m p first n role a : ℕ) (k : Kind) where
   abbrev linkedAs : Role → Bool
   linkedAs r = linkedBy m p r (roleNumbered role)
 
   some-role : 0 < length (roles n k)
-  some-role = split (isStore k) (λ t. omega (arith, store-operations n k t)) (λ f. omega (arith, other-operations n k f))
+  some-role = split (isStore k) (λ t. omega (arith, one-alone k, store-count n k t)) (λ f. omega (arith, one-alone k, other-count n k f))
 
   pub no-links : ((j : ℕ) (r : Role) → linkedBy m j r (roleNumbered role) ≡ false) → linkedFrom m k p first n role a ≡ false
   unfolding linkedFrom
@@ -248,29 +210,40 @@ module _ (m p first n role a : ℕ) (k : Kind) where
       (λ f. is-false (linkedFrom m k p first n role a)
       (λ u. let (u1, u2) = and-parts (leb first a) (ltb a (first + length (roles n k)) && linkedAs (getD (roles n k) (a - first) F)) u in
       let (u3, u4) = and-parts (ltb a (first + length (roles n k))) (linkedAs (getD (roles n k) (a - first) F)) u2 in
-      eqb-false a first f (omega (arith, leb-true first a u1, ltb-true a (first + length (roles n k)) u3, other-operations n k s)))
+      eqb-false a first f (omega (arith, leb-true first a u1, ltb-true a (first + length (roles n k)) u3, one-alone k, other-count n k s)))
       ∙ sym (elsewhere f))
 
-  no-remote-first : a ≡ first → remoteLinked m p first n role a ≡ false
+  no-remote-first : a ≡ first → remoteLinked m k p first n role a ≡ false
   unfolding remoteLinked
-  no-remote-first e = ap (λ (b : Bool). b && (ltb a (1 + first + n) && linkedAs (RV (a - (1 + first))))) (lt-leb (1 + first) a (omega arith))
+  no-remote-first e =
+      is-false _ (λ t. let (q, l, h) = some-at _ n t in
+      let at = eqb-true a (numberFrom first k (RV q)) (and-parts (eqb a (numberFrom first k (RV q))) (linkedAs (RV q)) h .0) in
+      omega (arith, one-alone k))
 
-  past-first : isStore k ≡ true → (a ≡ first → ⊥) → linkedFrom m k p first n role a ≡ remoteLinked m p first n role a
+  past-first : isStore k ≡ true → (a ≡ first → ⊥) → linkedFrom m k p first n role a ≡ remoteLinked m k p first n role a
   unfolding linkedFrom remoteLinked
-  past-first s f =
-      ap₂ (λ (b d : Bool). b && (d && linkedAs (getD (roles n k) (a - first) F)))
-      (agree (leb first a) (leb (1 + first) a) (λ t. le-leb (1 + first) a (omega (arith, leb-true first a t, f))) (λ t. le-leb first a (omega (arith, leb-true (1 + first) a t))))
-      (ap (ltb a) (let z : first + length (roles n k) ≡ 1 + first + n = omega (arith, store-operations n k s) in z))
-      ∙ guarded (leb (1 + first) a) (ltb a (1 + first + n))
-      (λ t u. let l = leb-true (1 + first) a t in
-      let v = ltb-true a (1 + first + n) u in
-      ap linkedAs (sym (store-later n k (a - first) s (λ z. omega arith) (omega (arith, store-operations n k s))) ∙ ap RV (omega arith)))
+  past-first s f = agree (linkedFrom m k p first n role a) (remoteLinked m k p first n role a)
+      (λ t. let (t1, t2) = and-parts (leb first a) (ltb a (first + length (roles n k)) && linkedAs (getD (roles n k) (a - first) F)) t in
+      let (t3, t4) = and-parts (ltb a (first + length (roles n k))) (linkedAs (getD (roles n k) (a - first) F)) t2 in
+      let l = leb-true first a t1 in
+      let h = ltb-true a (first + length (roles n k)) t3 in
+      let q = a - first - remotesAt k in
+      any-passes _ n q (omega (arith, store-count n k s, one-alone k, f))
+      (and-both (eq-eqb a (numberFrom first k (RV q)) (omega (arith, one-alone k, f))) (ap linkedAs (sym (at-place q (omega (arith, one-alone k, f)) h)) ∙ t4)))
+      (λ t. let (q, l, h) = some-at _ n t in
+      let (h1, h2) = and-parts (eqb a (numberFrom first k (RV q))) (linkedAs (RV q)) h in
+      let e = eqb-true a (numberFrom first k (RV q)) h1 in
+      let i : a < first + length (roles n k) = omega (arith, store-count n k s) in
+      and-both (le-leb first a (omega arith)) (and-both (lt-ltb a (first + length (roles n k)) i) (ap linkedAs (at-place q e i) ∙ h2)))
+    where
+      at-place : (q : ℕ) → a ≡ numberFrom first k (RV q) → a < first + length (roles n k) → getD (roles n k) (a - first) F ≡ RV q
+      at-place q e h = remote-role n k (a - first) (omega arith) (omega arith) ∙ ap RV (omega arith)
 
   -- a store has RVs too
-  pub store-links : isStore k ≡ true → linkedFrom m k p first n role a ≡ (firstLinked || remoteLinked m p first n role a)
+  pub store-links : isStore k ≡ true → linkedFrom m k p first n role a ≡ (firstLinked || remoteLinked m k p first n role a)
   store-links s = split (eqb a first)
       (λ t. at-first (eqb-true a first t) ∙ sym (there t) ∙ nothing-more firstLinked (no-remote-first (eqb-true a first t)))
-      (λ f. past-first s (eqb-false a first f) ∙ sym (ap (λ (b : Bool). b || remoteLinked m p first n role a) (elsewhere f)))
+      (λ f. past-first s (eqb-false a first f) ∙ sym (ap (λ (b : Bool). b || remoteLinked m k p first n role a) (elsewhere f)))
 
   -- the first operation by its role in the code
   pub first-role : (r : ℕ) {b : Bool} → ((j : ℕ) → 0 < length (roles j k) → roleNumbered r ≡ getD (roles j k) 0 F) → b ≡ linkedAs (roleNumbered r) → (b && eqb a first) ≡ firstLinked

@@ -1,29 +1,31 @@
 -- What the sets of operations hold, by the tables.
-use Prim.Native.Nat.{ℕ, suc, _+_, _-_, _/_}
+use Prim.Native.Nat.{ℕ, _+_, _-_, _/_}
 use mathlib.Core.Bool.{Bool, not, _&&_}
-use mathlib.Core.List.{List, map}
+use mathlib.Core.List.{List}
 use lib.ListN.{length, getD}
 use lib.Dec.{eqb, leb, ltb}
-use Rattle.base.specs.Lists.{below, member}
-use Rattle.model.specs.Execution.{Kind, kindOf, isStore, F, RV, roles}
+use Rattle.base.specs.Below.{anyBelow}
+use Rattle.model.specs.Execution.{Kind, kindOf, isStore, F, RV, roles, numberFrom}
 use Rattle.record_decoded.specs.Kinds.{roleNumbered}
 use Rattle.relation_marks.specs.Marks.{hasMark, atomicMark, markAt}
 use Rattle.relation_links.specs.Linked.{linkedBy}
 
--- the numbers of the RVs of a store, by that of its LV
-unfoldable pub remotesFrom : ℕ → ℕ → List ℕ
-remotesFrom first processors = map (λ q. suc first + q) (below processors)
+-- The instruction is given by its kind and the number of its first operation.
+
+-- a is one of the RVs of a store
+unfoldable pub isRemote : Kind → ℕ → ℕ → ℕ → Bool
+isRemote kind first processors a = anyBelow processors (λ q. eqb a (numberFrom first kind (RV q)))
 
 -- an operation with a role is an RV of an st.rel to WB, by the marks of its instruction, and a is one of the RVs
-unfoldable pub partnerOf : ℕ → ℕ → ℕ → ℕ → ℕ → Bool
-partnerOf marks role first processors a = not (ltb role 3) && (hasMark marks atomicMark && member (remotesFrom first processors) a)
+unfoldable pub partnerOf : ℕ → ℕ → Kind → ℕ → ℕ → ℕ → Bool
+partnerOf marks role kind first processors a = not (ltb role 3) && (hasMark marks atomicMark && isRemote kind first processors a)
 
--- Links to an operation with a role from those of an instruction of processor p, by the marks of the two and the number of its first operation
+-- Links to an operation with a role from those of an instruction of processor p, by the marks of the two
 
 -- a is an RV of the instruction, a store, and linked
-unfoldable pub remoteLinked : ℕ → ℕ → ℕ → ℕ → ℕ → ℕ → Bool
-remoteLinked marks p first processors role a =
-    leb (1 + first) a && (ltb a (1 + first + processors) && linkedBy marks p (RV (a - (1 + first))) (roleNumbered role))
+unfoldable pub remoteLinked : ℕ → Kind → ℕ → ℕ → ℕ → ℕ → ℕ → Bool
+remoteLinked marks kind p first processors role a =
+    anyBelow processors (λ q. eqb a (numberFrom first kind (RV q)) && linkedBy marks p (RV q) (roleNumbered role))
 
 -- a is an operation of the instruction, and linked
 unfoldable pub linkedFrom : ℕ → Kind → ℕ → ℕ → ℕ → ℕ → ℕ → Bool

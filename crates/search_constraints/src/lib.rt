@@ -1,23 +1,29 @@
 // The sets of operations that the search reads, for each operation.
 ghost use mathlib.Core.Path.{_≡_};
 ghost use mathlib.Core.Bool.{true, false, _&&_, _||_};
-ghost use Prim.Native.Nat.{ℕ, suc, _+_, _/_, _<_, _≤_};
+ghost use Prim.Native.Nat.{ℕ, _/_, _<_, _≤_};
 ghost use lib.ListN.{getD};
-ghost use lib.Dec.{eqb, leb, ltb};
-ghost use Rattle.base.specs.Lists.{member};
-ghost use Rattle.model.specs.Execution.{Role, isStore, kindOf};
-ghost use Rattle.record_decoded.specs.Kinds.{roleNumbered};
-ghost use Rattle.relation_marks.specs.Marks.{hasMark, atomicMark, markAt};
+ghost use lib.Dec.{eqb};
+ghost use Rattle.model.specs.Execution as model;
+ghost use Rattle.model.specs.Execution.{RV, isStore, kindOf, numberFrom};
+ghost use Rattle.record_decoded.specs.Kinds.{meant, roleNumbered};
+ghost use Rattle.relation_marks.specs.Marks.{markAt};
 ghost use Rattle.search_sets.specs.Set.{holds};
 ghost use Rattle.base.specs.Below.{anyBelow};
 ghost use Rattle.search_admit.specs.Rows.{awaitedBy};
 ghost use Rattle.relation_links.specs.Linked.{linkedBy};
-ghost use Rattle.search_constraints.specs.Rows.{remotesFrom, partnerOf, remoteLinked, linkedFrom, linkedOf, storesToLineBy};
+ghost use Rattle.search_constraints.specs.Rows.{isRemote, partnerOf, remoteLinked, linkedFrom, linkedOf, storesToLineBy};
+use record_decoded::kind::Kind;
 use record_decoded::kind::ROLE_R;
 use record_decoded::kind::ROLE_RV;
+use record_decoded::kind::Role;
 use record_decoded::kind::is_store;
 use record_decoded::kind::kind_of;
+use record_decoded::kind::number_of;
 use record_decoded::kind::role_of;
+use record_decoded::types::InstructionNo;
+use record_decoded::types::MOST_INSTRUCTIONS;
+use record_decoded::types::OperationNo;
 use record_decoded::types::wide;
 use record_decoded::types::wide16;
 use relation_links::link::is_linked;
@@ -32,18 +38,17 @@ use relation_marks::table::SAME;
 use relation_marks::table::both;
 use relation_marks::table::has_mark;
 use search_sets::Set;
-use search_sets::insert;
 use search_sets::insert_if;
 
-// A set, with all RVs of a store, by the number of its LV.
-fn with_every_remote(set: Set, first: usize, processors: usize) -> Set
-    requires { ⌜ (first < 65536) × (processors ≤ 8) ⌝ }
-    ensures { λ r. ⌜ ((a : ℕ) → a < 128 → holds (r .lo) (r .hi) a ≡ (holds (set .lo) (set .hi) a || (leb (1 + first) a && ltb a (1 + first + processors)))) ⌝ }
+// A set, with all RVs of a store, by its kind and its first operation.
+fn with_every_remote(set: Set, kind: Kind, first: OperationNo, processors: usize) -> Set
+    requires { ⌜ (first .0 < 65536) × (processors ≤ 8) ⌝ }
+    ensures { λ r. ⌜ ((a : ℕ) → a < 128 → holds (r .lo) (r .hi) a ≡ (holds (set .lo) (set .hi) a || isRemote (meant kind) (first .0) processors a)) ⌝ }
 {
     let mut more = set;
     for to in 0..processors {
-        let rv = 1 + first + to;
-        more = insert_if(more, rv, true);
+        let rv = number_of(first, kind, Role::RV(to));
+        more = insert_if(more, rv.0, true);
     }
     more
 }
@@ -54,15 +59,16 @@ fn with_remotes(
     set: Set,
     marks: u16,
     processor: u8,
-    first: usize,
+    kind: Kind,
+    first: OperationNo,
     processors: usize,
     role: u8,
 ) -> Set
-    requires { ⌜ (first < 65536) × (processors ≤ 8) ⌝ }
-    ensures { λ r. ⌜ ((a : ℕ) → a < 128 → holds (r .lo) (r .hi) a ≡ (holds (set .lo) (set .hi) a || remoteLinked marks processor first processors role a)) ⌝ }
+    requires { ⌜ (first .0 < 65536) × (processors ≤ 8) ⌝ }
+    ensures { λ r. ⌜ ((a : ℕ) → a < 128 → holds (r .lo) (r .hi) a ≡ (holds (set .lo) (set .hi) a || remoteLinked marks (meant kind) processor (first .0) processors role a)) ⌝ }
 {
     if has_mark(marks, FENCE) {
-        return with_every_remote(set, first, processors);
+        return with_every_remote(set, kind, first, processors);
     }
     if role < ROLE_RV {
         return set;
@@ -70,15 +76,17 @@ fn with_remotes(
     let to = role - ROLE_RV;
     let own = wide(processor);
     let to_other = both(has_mark(marks, SAME), to != processor);
-    let by_own = insert_if(set, 1 + first + own, both(to_other, own < processors));
+    let own_rv = number_of(first, kind, Role::RV(own));
+    let by_own = insert_if(set, own_rv.0, both(to_other, own < processors));
     let same = wide(to);
+    let same_rv = number_of(first, kind, Role::RV(same));
     let released = has_mark(marks, RELEASE);
-    insert_if(by_own, 1 + first + same, both(released, same < processors))
+    insert_if(by_own, same_rv.0, both(released, same < processors))
 }
 
 // Whether no operation is linked to one with a role, by the marks of their instructions.
 fn is_unlinked(marks: u16, role: u8) -> bool
-    ensures { λ r. ⌜ (r ≡ true → (p : ℕ) (a : Role) → linkedBy marks p a (roleNumbered role) ≡ false) ⌝ }
+    ensures { λ r. ⌜ (r ≡ true → (p : ℕ) (a : model.Role) → linkedBy marks p a (roleNumbered role) ≡ false) ⌝ }
 {
     if role < ROLE_RV {
         marks & LINK_MARKS == 0
@@ -91,149 +99,159 @@ fn is_unlinked(marks: u16, role: u8) -> bool
 fn with_linked(
     set: Set,
     marks: u16,
-    kind: u8,
+    kind: Kind,
     processor: u8,
-    first: usize,
+    first: OperationNo,
     processors: usize,
     role: u8,
 ) -> Set
-    requires { ⌜ (first < 65536) × (processors ≤ 8) ⌝ }
-    ensures { λ r. ⌜ ((a : ℕ) → a < 128 → holds (r .lo) (r .hi) a ≡ (holds (set .lo) (set .hi) a || linkedFrom marks (kindOf kind) processor first processors role a)) ⌝ }
+    requires { ⌜ (first .0 < 65536) × (processors ≤ 8) ⌝ }
+    ensures { λ r. ⌜ ((a : ℕ) → a < 128 → holds (r .lo) (r .hi) a ≡ (holds (set .lo) (set .hi) a || linkedFrom marks (meant kind) processor (first .0) processors role a)) ⌝ }
 {
     if is_unlinked(marks, role) {
         return set;
     }
-    let its = kind_of(kind);
-    let linked = is_linked(marks, processor, role_of(its, 0), role);
-    let by_first = insert_if(set, first, linked);
-    if !is_store(its) {
+    let linked = is_linked(marks, processor, role_of(kind, 0), role);
+    let by_first = insert_if(set, first.0, linked);
+    if !is_store(kind) {
         return by_first;
     }
-    with_remotes(by_first, marks, processor, first, processors, role)
+    with_remotes(by_first, marks, processor, kind, first, processors, role)
 }
 
 // The operations that must stand before one of instruction w with a role, by the kinds, first operations and processors of n instructions.
 pub fn preds_at<'a>(
     n: usize,
     every: usize,
-    kinds: &'a [u8; 40],
-    firsts: &'a [u16; 40],
-    processors: &'a [u8; 40],
-    marks: &'a [[u16; 40]; 40],
-    w: usize,
+    kinds: &'a [u8; MOST_INSTRUCTIONS],
+    firsts: &'a [u16; MOST_INSTRUCTIONS],
+    processors: &'a [u8; MOST_INSTRUCTIONS],
+    marks: &'a [[u16; MOST_INSTRUCTIONS]; MOST_INSTRUCTIONS],
+    w: InstructionNo,
     role: u8,
 ) -> Set
-    requires { ⌜ (n ≤ 40) × (every ≤ 8) × (w < 40) ⌝ }
-    ensures { λ r. ⌜ ((a : ℕ) → a < 128 → holds (r .lo) (r .hi) a ≡ anyBelow n (λ (v : ℕ). linkedOf every (now (kinds .entry)) (now (firsts .entry)) (now (processors .entry)) (now (marks .entry)) w role v a)) ⌝ }
+    requires { ⌜ (n ≤ 40) × (every ≤ 8) × (w .0 < 40) ⌝ }
+    ensures { λ r. ⌜ ((a : ℕ) → a < 128 → holds (r .lo) (r .hi) a ≡ anyBelow n (λ (v : ℕ). linkedOf every (now (kinds .entry)) (now (firsts .entry)) (now (processors .entry)) (now (marks .entry)) (w .0) role v a)) ⌝ }
 {
     let mut set = Set { lo: 0, hi: 0 };
+    let to = w.0;
     for v in 0..n {
         let first = wide16(firsts[v]);
-        let kind = kinds[v];
+        let kind = kind_of(kinds[v]);
         let processor = processors[v];
-        set = with_linked(set, marks[v][w], kind, processor, first, every, role);
-    }
-    set
-}
-
-// The RVs of a store, by the number of its LV.
-fn remotes_from(first: usize, processors: usize) -> Set
-    requires { ⌜ (first < 65536) × (processors ≤ 8) × ((q : ℕ) → q < processors → suc first + q < 128) ⌝ }
-    ensures { λ r. ⌜ ((a : ℕ) → holds (r .lo) (r .hi) a ≡ member (remotesFrom first processors) a) ⌝ }
-{
-    let mut set = Set { lo: 0, hi: 0 };
-    for q in 0..processors {
-        let rv = first + 1 + q;
-        set = insert(set, rv);
+        let between = marks[v][to];
+        set = with_linked(
+            set,
+            between,
+            kind,
+            processor,
+            OperationNo(first),
+            every,
+            role,
+        );
     }
     set
 }
 
 // The RVs of the st.rel to WB that an operation with a role is an RV of, by the marks of its instruction; of another operation none.
-pub fn partners_at(marks: u16, role: u8, first: usize, processors: usize) -> Set
-    requires { ⌜ (first < 65536) × (processors ≤ 8) × (hasMark marks atomicMark ≡ true → (q : ℕ) → q < processors → suc first + q < 128) ⌝ }
-    ensures { λ r. ⌜ ((a : ℕ) → holds (r .lo) (r .hi) a ≡ partnerOf marks role first processors a) ⌝ }
+pub fn partners_at(marks: u16, role: u8, kind: Kind, first: OperationNo, processors: usize) -> Set
+    requires { ⌜ (first .0 < 65536) × (processors ≤ 8) ⌝ }
+    ensures { λ r. ⌜ ((a : ℕ) → a < 128 → holds (r .lo) (r .hi) a ≡ partnerOf marks role (meant kind) (first .0) processors a) ⌝ }
 {
+    let none = Set { lo: 0, hi: 0 };
     if role < ROLE_RV {
-        return Set { lo: 0, hi: 0 };
+        return none;
     }
     if !has_mark(marks, ATOMIC) {
-        return Set { lo: 0, hi: 0 };
+        return none;
     }
-    remotes_from(first, processors)
+    with_every_remote(none, kind, first, processors)
 }
 
 // A set, with the operation for which one with a role may have to wait because of an instruction, by the marks of the two.
-fn with_awaited(set: Set, marks: u16, role: u8, first: usize, processor: usize) -> Set
-    requires { ⌜ (first < 65536) × (processor < 256) ⌝ }
-    ensures { λ r. ⌜ ((a : ℕ) → a < 128 → holds (r .lo) (r .hi) a ≡ (holds (set .lo) (set .hi) a || awaitedBy marks role first processor a)) ⌝ }
+fn with_awaited(
+    set: Set,
+    marks: u16,
+    role: u8,
+    kind: Kind,
+    first: OperationNo,
+    processor: usize,
+) -> Set
+    requires { ⌜ (first .0 < 65536) × (processor < 256) ⌝ }
+    ensures { λ r. ⌜ ((a : ℕ) → a < 128 → holds (r .lo) (r .hi) a ≡ (holds (set .lo) (set .hi) a || awaitedBy marks role (meant kind) (first .0) processor a)) ⌝ }
 {
     if role == ROLE_R {
-        let own = 1 + first + processor;
-        return insert_if(set, own, has_mark(marks, BYPASS));
+        let own = number_of(first, kind, Role::RV(processor));
+        return insert_if(set, own.0, has_mark(marks, BYPASS));
     }
     if role < ROLE_RV {
         return set;
     }
-    let remote = 1 + first + wide(role - ROLE_RV);
-    insert_if(set, remote, has_mark(marks, CONFLICT))
+    let to = wide(role - ROLE_RV);
+    let remote = number_of(first, kind, Role::RV(to));
+    insert_if(set, remote.0, has_mark(marks, CONFLICT))
 }
 
 // The operations for which one of instruction w with a role may have to wait by rules 9, 10 and 14.
 pub fn awaited_at<'a>(
     n: usize,
-    firsts: &'a [u16; 40],
-    processors: &'a [u8; 40],
-    marks: &'a [[u16; 40]; 40],
-    w: usize,
+    kinds: &'a [u8; MOST_INSTRUCTIONS],
+    firsts: &'a [u16; MOST_INSTRUCTIONS],
+    processors: &'a [u8; MOST_INSTRUCTIONS],
+    marks: &'a [[u16; MOST_INSTRUCTIONS]; MOST_INSTRUCTIONS],
+    w: InstructionNo,
     role: u8,
 ) -> Set
-    requires { ⌜ (n ≤ 40) × (w < 40) ⌝ }
-    ensures { λ r. ⌜ ((a : ℕ) → a < 128 → holds (r .lo) (r .hi) a ≡ anyBelow n (λ (v : ℕ). awaitedBy (markAt (now (marks .entry)) v w) role (getD (now (firsts .entry)) v 0) (getD (now (processors .entry)) v 0) a)) ⌝ }
+    requires { ⌜ (n ≤ 40) × (w .0 < 40) ⌝ }
+    ensures { λ r. ⌜ ((a : ℕ) → a < 128 → holds (r .lo) (r .hi) a ≡ anyBelow n (λ (v : ℕ). awaitedBy (markAt (now (marks .entry)) v (w .0)) role (kindOf (getD (now (kinds .entry)) v 0)) (getD (now (firsts .entry)) v 0) (getD (now (processors .entry)) v 0) a)) ⌝ }
 {
     let mut set = Set { lo: 0, hi: 0 };
+    let to = w.0;
     for v in 0..n {
+        let kind = kind_of(kinds[v]);
         let first = wide16(firsts[v]);
         let processor = wide(processors[v]);
-        set = with_awaited(set, marks[v][w], role, first, processor);
+        let marked = marks[v][to];
+        set = with_awaited(set, marked, role, kind, OperationNo(first), processor);
     }
     set
 }
 
 // Whether an instruction is a store of a processor to a line.
-fn stores_to_line(kind: u8, processor: u8, address: u8, own: u8, line: u8) -> bool
-    ensures { λ r. ⌜ r ≡ (isStore (kindOf kind) && (eqb processor own && eqb (address / 8) line)) ⌝ }
+fn stores_to_line(kind: Kind, processor: u8, address: u8, own: u8, line: u8) -> bool
+    ensures { λ r. ⌜ r ≡ (isStore (meant kind) && (eqb processor own && eqb (address / 8) line)) ⌝ }
 {
-    both(
-        is_store(kind_of(kind)),
-        both(processor == own, address / 8 == line),
-    )
+    both(is_store(kind), both(processor == own, address / 8 == line))
 }
 
 // The own RVs of the stores of instruction w's processor to its line, for an R; for another role none.
 pub fn bypasses_at<'a>(
     n: usize,
-    kinds: &'a [u8; 40],
-    firsts: &'a [u16; 40],
-    processors: &'a [u8; 40],
-    addresses: &'a [u8; 40],
-    w: usize,
+    kinds: &'a [u8; MOST_INSTRUCTIONS],
+    firsts: &'a [u16; MOST_INSTRUCTIONS],
+    processors: &'a [u8; MOST_INSTRUCTIONS],
+    addresses: &'a [u8; MOST_INSTRUCTIONS],
+    w: InstructionNo,
     role: u8,
 ) -> Set
-    requires { ⌜ (n ≤ 40) × (w < 40) ⌝ }
-    ensures { λ r. ⌜ ((a : ℕ) → a < 128 → holds (r .lo) (r .hi) a ≡ anyBelow n (λ (v : ℕ). eqb role 0 && (storesToLineBy (now (kinds .entry)) (now (processors .entry)) (now (addresses .entry)) w v && eqb a (1 + getD (now (firsts .entry)) v 0 + getD (now (processors .entry)) v 0)))) ⌝ }
+    requires { ⌜ (n ≤ 40) × (w .0 < 40) ⌝ }
+    ensures { λ r. ⌜ ((a : ℕ) → a < 128 → holds (r .lo) (r .hi) a ≡ anyBelow n (λ (v : ℕ). eqb role 0 && (storesToLineBy (now (kinds .entry)) (now (processors .entry)) (now (addresses .entry)) (w .0) v && eqb a (numberFrom (getD (now (firsts .entry)) v 0) (kindOf (getD (now (kinds .entry)) v 0)) (RV (getD (now (processors .entry)) v 0)))))) ⌝ }
 {
     let mut set = Set { lo: 0, hi: 0 };
     if role != ROLE_R {
         return set;
     }
-    let own = processors[w];
-    let line = addresses[w] / 8;
+    let reader = w.0;
+    let own = processors[reader];
+    let line = addresses[reader] / 8;
     for v in 0..n {
         let processor = processors[v];
-        let wanted = stores_to_line(kinds[v], processor, addresses[v], own, line);
-        let number = 1 + wide16(firsts[v]) + wide(processor);
-        set = insert_if(set, number, wanted);
+        let kind = kind_of(kinds[v]);
+        let wanted = stores_to_line(kind, processor, addresses[v], own, line);
+        let first = wide16(firsts[v]);
+        let to = wide(processor);
+        let own_rv = number_of(OperationNo(first), kind, Role::RV(to));
+        set = insert_if(set, own_rv.0, wanted);
     }
     set
 }

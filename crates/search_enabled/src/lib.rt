@@ -10,6 +10,7 @@ ghost use Rattle.search_admit.specs.Rows.{localOf};
 ghost use Rattle.search_admit.specs.Fits.{enabled, dueAfter};
 ghost use Rattle.search_enabled.specs.Affects.{writesWordOf, affects, Affecting, enabledAfter};
 use record_decoded::position::Position;
+use record_decoded::types::OperationNo;
 use search_admit::BYPASSES;
 use search_admit::LOCAL;
 use search_admit::OWN_WORD;
@@ -24,6 +25,7 @@ use search_admit::field_of;
 use search_admit::is_enabled;
 use search_admit::is_enabled_first;
 use search_admit::set_of;
+use search_sets::BOUND;
 use search_sets::Set;
 use search_sets::at;
 use search_sets::common;
@@ -44,8 +46,8 @@ fn with_locals(set: Set, rows: &[u64; TABLE], stores: Set) -> Set
 {
     let mut all = set;
     let mut m = first(stores, 0);
-    while m < 128 {
-        let local = field_of(rows, m, LOCAL) as usize;
+    while m < BOUND {
+        let local = field_of(rows, OperationNo(m), LOCAL) as usize;
         all = insert_if(all, local, true);
         let from = m + 1;
         m = first(stores, from);
@@ -54,34 +56,34 @@ fn with_locals(set: Set, rows: &[u64; TABLE], stores: Set) -> Set
 }
 
 // Whether operation a writes a word that the R y reads.
-fn writes_word_of(rows: &[u64; TABLE], a: usize, y: usize) -> bool
-    requires { ⌜ (a < 128) × (y < 128) ⌝ }
-    ensures { λ r. ⌜ r ≡ writesWordOf (now (rows .entry)) a y ⌝ }
+fn writes_word_of(rows: &[u64; TABLE], a: OperationNo, y: OperationNo) -> bool
+    requires { ⌜ (a .0 < 128) × (y .0 < 128) ⌝ }
+    ensures { λ r. ⌜ r ≡ writesWordOf (now (rows .entry)) (a .0) (y .0) ⌝ }
 {
-    let written = field_of(rows, a, WRITTEN_WORD) % 128;
-    if written == field_of(rows, y, VISIBLE_WORD) % 128 {
+    let written = field_of(rows, a, WRITTEN_WORD) % WORDS as u64;
+    if written == field_of(rows, y, VISIBLE_WORD) % WORDS as u64 {
         return true;
     }
-    written == field_of(rows, y, OWN_WORD) % 128
+    written == field_of(rows, y, OWN_WORD) % WORDS as u64
 }
 
 // A set, with the operations of n that write a word that the R y reads.
-fn with_writers(set: Set, n: usize, rows: &[u64; TABLE], y: usize) -> Set
-    requires { ⌜ (n ≤ 128) × (y < 128) ⌝ }
-    ensures { λ r. ⌜ ((a : ℕ) → a < n → holds (r .lo) (r .hi) a ≡ (holds (set .lo) (set .hi) a || writesWordOf (now (rows .entry)) a y)) ⌝ }
+fn with_writers(set: Set, n: usize, rows: &[u64; TABLE], y: OperationNo) -> Set
+    requires { ⌜ (n ≤ 128) × (y .0 < 128) ⌝ }
+    ensures { λ r. ⌜ ((a : ℕ) → a < n → holds (r .lo) (r .hi) a ≡ (holds (set .lo) (set .hi) a || writesWordOf (now (rows .entry)) a (y .0))) ⌝ }
 {
     let mut all = set;
     for a in 0..n {
-        let writes = writes_word_of(rows, a, y);
+        let writes = writes_word_of(rows, OperationNo(a), y);
         all = insert_if(all, a, writes);
     }
     all
 }
 
 // The operations, of n, that may change whether y is enabled.
-fn all_affecting(n: usize, rows: &[u64; TABLE], y: usize) -> Set
-    requires { ⌜ (n ≤ 128) × (y < 128) ⌝ }
-    ensures { λ r. ⌜ ((a : ℕ) → a < n → holds (r .lo) (r .hi) a ≡ affects (now (rows .entry)) a y) ⌝ }
+fn all_affecting(n: usize, rows: &[u64; TABLE], y: OperationNo) -> Set
+    requires { ⌜ (n ≤ 128) × (y .0 < 128) ⌝ }
+    ensures { λ r. ⌜ ((a : ℕ) → a < n → holds (r .lo) (r .hi) a ≡ affects (now (rows .entry)) a (y .0)) ⌝ }
 {
     let preds = set_of(rows, y, PREDS);
     if field_of(rows, y, READ_BITS) == 0 {
@@ -93,14 +95,14 @@ fn all_affecting(n: usize, rows: &[u64; TABLE], y: usize) -> Set
 }
 
 // Puts y into the sets of those that affect it.
-fn put_affected(affected: &mut [u64], affecting: Set, y: usize)
-    requires { ⌜ (y < 128) × (length (now affected) ≡ 256) ⌝ }
-    ensures { λ _. ⌜ ((a k : ℕ) → a < 128 → setAt (now (affected .exit)) a k ≡ (setAt (now (affected .entry)) a k || (holds (affecting .lo) (affecting .hi) a && eqb k y))) × (length (now (affected .exit)) ≡ 256) ⌝ }
+fn put_affected(affected: &mut [u64], affecting: Set, y: OperationNo)
+    requires { ⌜ (y .0 < 128) × (length (now affected) ≡ 256) ⌝ }
+    ensures { λ _. ⌜ ((a k : ℕ) → a < 128 → setAt (now (affected .exit)) a k ≡ (setAt (now (affected .entry)) a k || (holds (affecting .lo) (affecting .hi) a && eqb k (y .0)))) × (length (now (affected .exit)) ≡ 256) ⌝ }
 {
     let mut a = first(affecting, 0);
-    while a < 128 {
+    while a < BOUND {
         let set = at(affected, a);
-        put(affected, a, insert(set, y));
+        put(affected, a, insert(set, y.0));
         let from = a + 1;
         a = first(affecting, from);
     }
@@ -113,8 +115,8 @@ pub fn affected_by(n: usize, rows: &[u64; TABLE]) -> [u64; AFFECTED]
 {
     let mut affected = [0u64; AFFECTED];
     for y in 0..n {
-        let affecting = all_affecting(n, rows, y);
-        put_affected(&mut affected, affecting, y);
+        let affecting = all_affecting(n, rows, OperationNo(y));
+        put_affected(&mut affected, affecting, OperationNo(y));
     }
     affected
 }
@@ -126,7 +128,7 @@ pub fn first_enabled(n: usize, rows: &[u64; TABLE], words: &[u64; WORDS]) -> Set
 {
     let mut all = Set { lo: 0, hi: 0 };
     for y in 0..n {
-        let now = is_enabled_first(rows, words, y);
+        let now = is_enabled_first(rows, words, OperationNo(y));
         all = insert_if(all, y, now);
     }
     all
@@ -139,12 +141,12 @@ pub fn enabled_after(
     words: &[u64; WORDS],
     before: Set,
     stand: Set,
-    x: usize,
+    x: OperationNo,
 ) -> Set
-    requires { ⌜ x < 128 ⌝ }
-    ensures { λ r. ⌜ ((y : ℕ) → y < 128 → holds (r .lo) (r .hi) y ≡ enabledAfter (now (rows .entry)) (now (affected .entry)) (now (words .entry)) (before .lo) (before .hi) (stand .lo) (stand .hi) x y) ⌝ }
+    requires { ⌜ x .0 < 128 ⌝ }
+    ensures { λ r. ⌜ ((y : ℕ) → y < 128 → holds (r .lo) (r .hi) y ≡ enabledAfter (now (rows .entry)) (now (affected .entry)) (now (words .entry)) (before .lo) (before .hi) (stand .lo) (stand .hi) (x .0) y) ⌝ }
 {
-    let changed = at(affected, x);
+    let changed = at(affected, x.0);
     let kept = minus(minus(before, changed), stand);
     if subset(changed, stand) {
         return kept;
@@ -152,8 +154,8 @@ pub fn enabled_after(
     let again = minus(changed, stand);
     let mut all = kept;
     let mut y = first(again, 0);
-    while y < 128 {
-        let now = is_enabled(rows, words, stand, y);
+    while y < BOUND {
+        let now = is_enabled(rows, words, stand, OperationNo(y));
         all = insert_if(all, y, now);
         let from = y + 1;
         y = first(again, from);
@@ -162,9 +164,9 @@ pub fn enabled_after(
 }
 
 // Those of them that may follow x as far as rule 12 goes.
-pub fn open_after(rows: &[u64; TABLE], set: Set, stand: Set, x: usize) -> Set
-    requires { ⌜ x < 128 ⌝ }
-    ensures { λ r. ⌜ ((y : ℕ) → holds (r .lo) (r .hi) y ≡ (dueAfter (now (rows .entry)) x (stand .lo) (stand .hi) y && holds (set .lo) (set .hi) y)) ⌝ }
+pub fn open_after(rows: &[u64; TABLE], set: Set, stand: Set, x: OperationNo) -> Set
+    requires { ⌜ x .0 < 128 ⌝ }
+    ensures { λ r. ⌜ ((y : ℕ) → holds (r .lo) (r .hi) y ≡ (dueAfter (now (rows .entry)) (x .0) (stand .lo) (stand .hi) y && holds (set .lo) (set .hi) y)) ⌝ }
 {
     let partners = set_of(rows, x, PARTNERS);
     if subset(partners, stand) {

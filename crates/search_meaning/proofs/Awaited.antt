@@ -1,5 +1,5 @@
 -- Rules 9, 10 and 14: the operations that one must wait for are those of the instructions that refuse it.
-use Prim.Native.Nat.{ℕ, _+_, _-_, _≤_, _<_}
+use Prim.Native.Nat.{ℕ, _-_, _≤_, _<_}
 use native.Mathlib.Omega.{arith}
 use native.Mathlib.Decide.{ℕ-discrete}
 use mathlib.Core.Path.{_≡_, refl, sym, ap, _∙_}
@@ -13,9 +13,11 @@ use Rattle.base.specs.Below.{anyBelow}
 use Rattle.base.proofs.Bools.{agree, split, clash, and-parts, and-both}
 use Rattle.base.proofs.Tests.{some-at, any-passes}
 use Rattle.model.specs.Execution as model
-use Rattle.model.specs.Execution.{Instruction, R, RV, isStore, isLoad, numberOf, stores, operations}
+use Rattle.model.specs.Execution.{Instruction, LV, RV, isStore, isLoad, numberOf, operations}
+use Rattle.model.specs.Rules.{RV-own}
 use Rattle.model.specs.Accepted.{Accepted}
 use Rattle.record_decoded.specs.Decoded.{instructionAt, executionOf}
+use Rattle.record_decoded.proofs.RoleNumbers.{role-RV}
 use Rattle.relation_places.specs.Places.{placed, Placed}
 use Rattle.relation_places.proofs.PlaceLaws.{member-placed, placed-absent}
 use Rattle.search_sets.specs.Set.{holds}
@@ -24,37 +26,37 @@ use Rattle.search_admit.specs.Rows.{ownOf, localOf, awaited, awaitedBy, awaited
 use Rattle.search_admit.specs.Fits.{Standing, waitsFor, refused}
 use Rattle.search_reduction.proofs.Ownership.{store-processor}
 use Rattle.search_meaning.proofs.Tables.{Tables, TablesMean}
-use Rattle.search_meaning.proofs.Owners.{number-is, role-RV}
+use Rattle.search_meaning.proofs.Owners.{number-is}
 use Rattle.search_meaning.proofs.OperationRows.{RV-writes, IsRV, is-RV, own-by, local-by, own-itself, local-itself}
 use Rattle.search_meaning.proofs.Refusals.{missingBy, storeLost, loadLost, refusesBy, refusedBy}
 use Rattle.search_meaning.proofs.Demands.{conflict-mark, bypass-mark, store-in, remote-few, load-refusal, store-refusal}
 
--- what an RV may wait for, by the numbers of the two stores
-store-same : (places : List ℕ) (q fv pv fw pw m x : ℕ) → m ≡ 1 + fv + q → x ≡ 1 + fw + q
+-- what an RV may wait for, by the two stores
+store-same : (places : List ℕ) (q : ℕ) (v w : Instruction) (m x : ℕ) → m ≡ numberOf v (RV q) → x ≡ numberOf w (RV q)
     → (missingBy places m
-    && (ltb (placed places (1 + fv + pv)) (placed places (1 + fw + pw))
-    || eqb (1 + fv + pv) m && (eqb (1 + fw + pw) x && ltb (placed places fv) (placed places fw))))
-    ≡ storeLost places q fv pv fw pw
+    && (ltb (placed places (RV-own v)) (placed places (RV-own w))
+    || eqb (RV-own v) m && (eqb (RV-own w) x && ltb (placed places (numberOf v LV)) (placed places (numberOf w LV)))))
+    ≡ storeLost places q v w
 unfolding storeLost
-store-same places q fv pv fw pw m x em ex = go (ℕ-discrete q pw) (ℕ-discrete pv pw)
+store-same places q v w m x em ex = go (ℕ-discrete q (w .processor)) (ℕ-discrete (v .processor) (w .processor))
   where
     a : Bool
-    a = ltb (placed places (1 + fv + pv)) (placed places (1 + fw + pw))
+    a = ltb (placed places (RV-own v)) (placed places (RV-own w))
 
     g : Bool
-    g = ltb (placed places fv) (placed places fw)
+    g = ltb (placed places (numberOf v LV)) (placed places (numberOf w LV))
 
-    go : Dec (q ≡ pw) → Dec (pv ≡ pw)
-        → (missingBy places m && (a || eqb (1 + fv + pv) m && (eqb (1 + fw + pw) x && g)))
-        ≡ (a && missingBy places (1 + fv + q) || eqb q pw && (eqb pv pw && (g && missingBy places (1 + fv + pv))))
+    go : Dec (q ≡ w .processor) → Dec (v .processor ≡ w .processor)
+        → (missingBy places m && (a || eqb (RV-own v) m && (eqb (RV-own w) x && g)))
+        ≡ (a && missingBy places (numberOf v (RV q)) || eqb q (w .processor) && (eqb (v .processor) (w .processor) && (g && missingBy places (RV-own v))))
     go (yes f) (yes d) =
         rw (
-          eq-eqb (1 + fv + pv) m (omega arith),
-          eq-eqb (1 + fw + pw) x (omega arith),
-          eq-eqb q pw f,
-          eq-eqb pv pw d,
-          ap (missingBy places) (let z : 1 + fv + q ≡ m = omega arith in z),
-          ap (missingBy places) (let z : 1 + fv + pv ≡ m = omega arith in z),
+          eq-eqb (RV-own v) m (omega arith),
+          eq-eqb (RV-own w) x (omega arith),
+          eq-eqb q (w .processor) f,
+          eq-eqb (v .processor) (w .processor) d,
+          ap (missingBy places) (let z : numberOf v (RV q) ≡ m = omega arith in z),
+          ap (missingBy places) (let z : RV-own v ≡ m = omega arith in z),
         )
         (same (missingBy places m) a g)
       where
@@ -68,10 +70,10 @@ store-same places q fv pv fw pw m x em ex = go (ℕ-discrete q pw) (ℕ-discrete
         same false false false = refl
     go (yes f) (no d) =
         rw (
-          ne-eqb (1 + fv + pv) m (λ z. d (omega arith)),
-          ne-eqb pv pw d,
-          eq-eqb q pw f,
-          ap (missingBy places) (let z : 1 + fv + q ≡ m = omega arith in z),
+          ne-eqb (RV-own v) m (λ z. d (omega arith)),
+          ne-eqb (v .processor) (w .processor) d,
+          eq-eqb q (w .processor) f,
+          ap (missingBy places) (let z : numberOf v (RV q) ≡ m = omega arith in z),
           or-false a,
         )
         (turned (missingBy places m) a)
@@ -83,11 +85,11 @@ store-same places q fv pv fw pw m x em ex = go (ℕ-discrete q pw) (ℕ-discrete
         turned false false = refl
     go (no f) d =
         rw (
-          ne-eqb (1 + fw + pw) x (λ z. f (omega arith)),
-          ne-eqb q pw f,
-          ap (missingBy places) (let z : 1 + fv + q ≡ m = omega arith in z),
+          ne-eqb (RV-own w) x (λ z. f (omega arith)),
+          ne-eqb q (w .processor) f,
+          ap (missingBy places) (let z : numberOf v (RV q) ≡ m = omega arith in z),
         )
-        (turned (missingBy places m) a (eqb (1 + fv + pv) m))
+        (turned (missingBy places m) a (eqb (RV-own v) m))
       where
         turned : (s a b : Bool) → (s && (a || b && false)) ≡ (a && s || false)
         turned true true b = refl
@@ -97,12 +99,12 @@ store-same places q fv pv fw pw m x em ex = go (ℕ-discrete q pw) (ℕ-discrete
         turned false false true = refl
         turned false false false = refl
 
--- what an R may wait for, by the numbers of the store
-load-same : (places : List ℕ) (fv pv m x : ℕ) → m ≡ 1 + fv + pv → placed places x ≡ 255
-    → (missingBy places m && (ltb (placed places m) (placed places x) || eqb m m && (eqb x x && ltb (placed places fv) (placed places x)))) ≡ loadLost places fv pv
+-- what an R may wait for, by the store
+load-same : (places : List ℕ) (v : Instruction) (m x : ℕ) → m ≡ RV-own v → placed places x ≡ 255
+    → (missingBy places m && (ltb (placed places m) (placed places x) || eqb m m && (eqb x x && ltb (placed places (numberOf v LV)) (placed places x)))) ≡ loadLost places v
 unfolding loadLost
-load-same places fv pv m x em absent =
-    rw (eq-eqb m m refl, eq-eqb x x refl, absent, sym em) (same (ltb (placed places m) 255) (ltb (placed places fv) 255))
+load-same places v m x em absent =
+    rw (eq-eqb m m refl, eq-eqb x x refl, absent, sym em) (same (ltb (placed places m) 255) (ltb (placed places (numberOf v LV)) 255))
   where
     same : (a b : Bool) → (not a && (a || b)) ≡ (b && not a)
     same true true = refl
@@ -144,32 +146,32 @@ module _ {t : Tables} (h : TablesMean t) (accepted : Accepted (executionOf (t .e
 
   -- x is an RV: a store in conflict
   module _ (v : ℕ) (lv : v < t .execution .instructions .count) (few : 3 ≤ roleNumber) (marked : hasMark (markAt (t .marks) v owner) 128 ≡ true) (m : ℕ)
-      (at : m ≡ 1 + instruction v .first + (roleNumber - 3)) where
+      (at : m ≡ numberOf (instruction v) (RV (roleNumber - 3))) where
     store-v : isStore (instruction v .kind) ≡ true
     store-v = and-parts (isStore (instruction v .kind)) (isStore (instruction owner .kind)) (and-parts _ _ (sym (conflict-mark h accepted x low p new v lv) ∙ marked) .0) .0
 
     remote : IsRV h accepted (instruction v) (roleNumber - 3) m
-    remote = is-RV h accepted (store-in h accepted x low p new v lv store-v) (roleNumber - 3) (remote-few h accepted x low p new (roleNumber - 3) (role-RV roleNumber few)) m (omega arith)
+    remote = is-RV h accepted (store-in h accepted x low p new v lv store-v) (roleNumber - 3) (remote-few h accepted x low p new (roleNumber - 3) (role-RV roleNumber few)) m at
 
     pub awaited-low : m < 128
     awaited-low = small m (remote .low)
 
-    pub store-waits : waits m ≡ storeLost places (roleNumber - 3) (instruction v .first) (instruction v .processor) (instruction owner .first) (instruction owner .processor)
+    pub store-waits : waits m ≡ storeLost places (roleNumber - 3) (instruction v) (instruction owner)
     store-waits =
         waits-is m awaited-low (remote .own) (own-by h accepted x low (RV-writes roleNumber few)) (remote .local) (local-by h accepted x low (RV-writes roleNumber few))
-        ∙ store-same places (roleNumber - 3) (instruction v .first) (instruction v .processor) (instruction owner .first) (instruction owner .processor) m x at
-        (omega (arith, sym (number-is h accepted x low) ∙ ap (numberOf (instruction owner)) (role-RV roleNumber few)))
+        ∙ store-same places (roleNumber - 3) (instruction v) (instruction owner) m x at
+        (sym (number-is h accepted x low) ∙ ap (numberOf (instruction owner)) (role-RV roleNumber few))
 
   -- x is an R: a UC store
   module _ (v : ℕ) (lv : v < t .execution .instructions .count) (reads : roleNumber ≡ 0) (marked : hasMark (markAt (t .marks) v owner) 256 ≡ true) (m : ℕ)
-      (at : m ≡ 1 + instruction v .first + instruction v .processor) where
+      (at : m ≡ RV-own (instruction v)) where
     store-u : isStore (instruction v .kind) ≡ true
     store-u = and-parts (isStore (instruction v .kind)) (isLoad (instruction owner .kind)) (and-parts _ _ (sym (bypass-mark h accepted x low p new v lv) ∙ marked) .0) .0
 
     own-remote : IsRV h accepted (instruction v) (instruction v .processor) m
     own-remote =
         let mv = store-in h accepted x low p new v lv store-u in
-        is-RV h accepted mv (instruction v .processor) (store-processor e accepted mv) m (omega arith)
+        is-RV h accepted mv (instruction v .processor) (store-processor e accepted mv) m at
 
     pub bypass-low : m < 128
     bypass-low = small m (own-remote .low)
@@ -178,20 +180,20 @@ module _ {t : Tables} (h : TablesMean t) (accepted : Accepted (executionOf (t .e
     itself : writes roleNumber ≡ false
     itself = rw reads refl
 
-    pub load-waits : waits m ≡ loadLost places (instruction v .first) (instruction v .processor)
+    pub load-waits : waits m ≡ loadLost places (instruction v)
     load-waits =
         waits-is m bypass-low (own-remote .own ∙ sym at) (own-itself h accepted x low itself) (own-remote .local) (local-itself h accepted x low itself)
-        ∙ load-same places (instruction v .first) (instruction v .processor) m x at (placed-absent p x new)
+        ∙ load-same places (instruction v) m x at (placed-absent p x new)
 
   abbrev awaitedAt : ℕ → ℕ → Bool
   awaitedAt v m = awaitedOf (t .execution) (t .operations) (t .marks) x v m
 
-  awaited-load : (v m : ℕ) → roleNumber ≡ 0 → awaitedAt v m ≡ (hasMark (markAt (t .marks) v owner) 256 && eqb m (1 + instruction v .first + instruction v .processor))
+  awaited-load : (v m : ℕ) → roleNumber ≡ 0 → awaitedAt v m ≡ (hasMark (markAt (t .marks) v owner) 256 && eqb m (RV-own (instruction v)))
   unfolding awaitedBy instructionAt
   awaited-load v m r = rw (eq-eqb roleNumber 0 r) refl
 
   awaited-store : (v m : ℕ) → (roleNumber ≡ 0 → ⊥) → 3 ≤ roleNumber
-      → awaitedAt v m ≡ (hasMark (markAt (t .marks) v owner) 128 && eqb m (1 + instruction v .first + (roleNumber - 3)))
+      → awaitedAt v m ≡ (hasMark (markAt (t .marks) v owner) 128 && eqb m (numberOf (instruction v) (RV (roleNumber - 3))))
   unfolding awaitedBy instructionAt
   awaited-store v m z r = rw (ne-eqb roleNumber 0 z, le-leb 3 roleNumber r) refl
 
@@ -205,14 +207,14 @@ module _ {t : Tables} (h : TablesMean t) (accepted : Accepted (executionOf (t .e
       split (eqb roleNumber 0)
       (λ z.
       let reads = eqb-true roleNumber 0 z in
-      let (k, q) = and-parts (hasMark (markAt (t .marks) v owner) 256) (eqb m (1 + instruction v .first + instruction v .processor)) (sym (awaited-load v m reads) ∙ r) in
-      load-refusal h accepted x low p new v reads ∙ and-both k (sym (load-waits v l reads k m (eqb-true m (1 + instruction v .first + instruction v .processor) q)) ∙ w))
+      let (k, q) = and-parts (hasMark (markAt (t .marks) v owner) 256) (eqb m (RV-own (instruction v))) (sym (awaited-load v m reads) ∙ r) in
+      load-refusal h accepted x low p new v reads ∙ and-both k (sym (load-waits v l reads k m (eqb-true m (RV-own (instruction v)) q)) ∙ w))
       (λ z. split (leb 3 roleNumber)
       (λ s.
       let few = leb-true 3 roleNumber s in
       let other : roleNumber ≡ 0 → ⊥ = λ u. clash (eq-eqb roleNumber 0 u) z in
-      let (k, q) = and-parts (hasMark (markAt (t .marks) v owner) 128) (eqb m (1 + instruction v .first + (roleNumber - 3))) (sym (awaited-store v m other few) ∙ r) in
-      store-refusal h accepted x low p new v other few ∙ and-both k (sym (store-waits v l few k m (eqb-true m (1 + instruction v .first + (roleNumber - 3)) q)) ∙ w))
+      let (k, q) = and-parts (hasMark (markAt (t .marks) v owner) 128) (eqb m (numberOf (instruction v) (RV (roleNumber - 3)))) (sym (awaited-store v m other few) ∙ r) in
+      store-refusal h accepted x low p new v other few ∙ and-both k (sym (store-waits v l few k m (eqb-true m (numberOf (instruction v) (RV (roleNumber - 3))) q)) ∙ w))
       (λ s. clash r (awaited-none v m (λ u. clash (eq-eqb roleNumber 0 u) z) (leb-false 3 roleNumber s))))
 
   refusal-none : (v : ℕ) → (roleNumber ≡ 0 → ⊥) → roleNumber < 3 → refusal v ≡ false
@@ -233,15 +235,15 @@ module _ {t : Tables} (h : TablesMean t) (accepted : Accepted (executionOf (t .e
       split (eqb roleNumber 0)
       (λ z.
       let reads = eqb-true roleNumber 0 z in
-      let m = 1 + instruction v .first + instruction v .processor in
-      let (k, q) = and-parts (hasMark (markAt (t .marks) v owner) 256) (loadLost places (instruction v .first) (instruction v .processor)) (sym (load-refusal h accepted x low p new v reads) ∙ r) in
+      let m = RV-own (instruction v) in
+      let (k, q) = and-parts (hasMark (markAt (t .marks) v owner) 256) (loadLost places (instruction v)) (sym (load-refusal h accepted x low p new v reads) ∙ r) in
       awaited-there v m l (bypass-low v l reads k m refl) (awaited-load v m reads ∙ and-both k (eq-eqb m m refl)) (load-waits v l reads k m refl ∙ q))
       (λ z. split (leb 3 roleNumber)
       (λ s.
       let few = leb-true 3 roleNumber s in
       let other : roleNumber ≡ 0 → ⊥ = λ u. clash (eq-eqb roleNumber 0 u) z in
-      let m = 1 + instruction v .first + (roleNumber - 3) in
-      let (k, q) = and-parts (hasMark (markAt (t .marks) v owner) 128) (storeLost places (roleNumber - 3) (instruction v .first) (instruction v .processor) (instruction owner .first) (instruction owner .processor)) (sym (store-refusal h accepted x low p new v other few) ∙ r) in
+      let m = numberOf (instruction v) (RV (roleNumber - 3)) in
+      let (k, q) = and-parts (hasMark (markAt (t .marks) v owner) 128) (storeLost places (roleNumber - 3) (instruction v) (instruction owner)) (sym (store-refusal h accepted x low p new v other few) ∙ r) in
       awaited-there v m l (awaited-low v l few k m refl) (awaited-store v m other few ∙ and-both k (eq-eqb m m refl)) (store-waits v l few k m refl ∙ q))
       (λ s. clash r (refusal-none v (λ u. clash (eq-eqb roleNumber 0 u) z) (leb-false 3 roleNumber s))))
 

@@ -1,25 +1,27 @@
 -- Rules 9, 10 and 14: an instruction that refuses an operation is a demand that is lost.
-use Prim.Native.Nat.{ℕ, _+_, _-_, _≤_, _<_}
+use Prim.Native.Nat.{ℕ, _-_, _≤_, _<_}
 use native.Mathlib.Omega.{arith}
 use mathlib.Core.Path.{_≡_, refl, sym, ap, ap₂, _∙_, subst}
 use mathlib.Core.Bool.{Bool, true, false, not, _&&_, _||_}
-use mathlib.Core.List.{List, [], _∷_, map, List·Memᴰ, List·Memᴰ·eq-of-singleton, List·Memᴰ·cases-cons, Memᴰ·of-map}
+use mathlib.Core.List.{List, [], _∷_, List·Memᴰ}
 use mathlib.Core.Logic.{_⊎_, inl, inr}
 use lib.ListN.{getD}
 use lib.Dec.{eqb, leb}
 use borrow.Author.Tests.{eq-eqb, eqb-true, leb-true, le-leb, ne-eqb}
-use Rattle.base.specs.Lists.{any, when, for, below, member}
+use Rattle.base.specs.Lists.{any, when, for, member}
 use Rattle.base.specs.Bits.{bit}
-use Rattle.base.proofs.Bools.{agree, split, clash, and-parts, and-both, or-right}
+use Rattle.base.proofs.Bools.{agree, split, clash, and-parts, and-both, or-right, or-parts}
 use Rattle.base.proofs.Bits.{bit-packed}
-use Rattle.base.proofs.Lists.{any-one, any-witness, any-member, any-for, any-when, of-below, in-keep}
+use Rattle.base.proofs.Lists.{any-one, any-witness, any-member, any-for, any-when, in-keep}
 use Rattle.base.proofs.Tests.{some-at, any-passes}
 use Rattle.model.specs.Execution as model
-use Rattle.model.specs.Execution.{Kind, ld, ld-acq, st, st-rel, mf, isLoad, isStore, Instruction, Role, R, LV, RV, roles, numberOf, stores, loads, everyProcessor, operations}
+use Rattle.model.specs.Execution.{isLoad, isStore, Instruction, Role, R, LV, RV, roles, numberOf, stores, loads, everyProcessor, operations}
 use Rattle.model.specs.Rules.{before, overlap, inUC, conflict, RV-own}
 use Rattle.model.specs.Accepted.{Accepted}
+use Rattle.model.proofs.Roles.{R-role, RV-role, RV-few}
 use Rattle.record_decoded.specs.Kinds.{roleNumbered}
 use Rattle.record_decoded.specs.Decoded.{instructionAt, executionOf}
+use Rattle.record_decoded.proofs.RoleNumbers.{number-R, number-RV, role-R, role-RV}
 use Rattle.relation_places.specs.Places.{beforeBy, Placed}
 use Rattle.relation_places.proofs.PlaceLaws.{before-placed, member-placed}
 use Rattle.relation_marks.specs.Marks.{hasMark, markAt, marksOf, marksBetween}
@@ -27,28 +29,10 @@ use Rattle.relation_links.proofs.CompiledLaws.{owner-there}
 use Rattle.search_reduction.specs.Admits.{ownDemands, remoteDemands, bypassDemands, missing, lost}
 use Rattle.search_reduction.proofs.Settled.{before-absent}
 use Rattle.search_reduction.proofs.Pairs.{pair-passes, passing-pair}
-use Rattle.search_reduction.proofs.Ownership.{is-store, is-load, R-role, RV-role, store-processor, processor-in, in-processors}
+use Rattle.search_reduction.proofs.Ownership.{is-store, is-load, store-processor, processor-in, in-processors}
 use Rattle.search_meaning.proofs.Tables.{Tables, TablesMean}
 use Rattle.search_meaning.proofs.Refusals.{missingBy, storeLost, loadLost, refusesBy, refusedBy}
-use Rattle.search_meaning.proofs.Owners.{number-R, number-RV, role-R, role-RV, role-in, number-is, owner-is, by-number, numbered-in}
-
--- an RV of an instruction is to a processor
-among : {p q : ℕ} → (RV q ≡ LV) ⊎ List·Memᴰ (RV q) (map RV (below p)) → q < p
-among {p} {q} (inl h) = let z : _≡_ {A = ℕ} 0 1 = cc in absurd (omega arith)
-among {p} {q} (inr k) = let (r, mr, h) = Memᴰ·of-map RV (below p) k in let z : r ≡ q = cc in omega (arith, of-below p mr)
-
-pub role-few : {p q : ℕ} (k : Kind) → List·Memᴰ (RV q) (roles p k) → q < p
-unfolding roles
-role-few {p} {q} ld m = let z : _≡_ {A = ℕ} 0 1 = (let w = List·Memᴰ·eq-of-singleton m in cc) in absurd (omega arith)
-role-few {p} {q} ld-acq m = let z : _≡_ {A = ℕ} 0 1 = (let w = List·Memᴰ·eq-of-singleton m in cc) in absurd (omega arith)
-role-few st m = among (List·Memᴰ·cases-cons m)
-role-few st-rel m = among (List·Memᴰ·cases-cons m)
-role-few {p} {q} mf m = let z : _≡_ {A = ℕ} 0 1 = (let w = List·Memᴰ·eq-of-singleton m in cc) in absurd (omega arith)
-
--- the parts of a test with an 'or'
-or-parts : (a b : Bool) → (a || b) ≡ true → (a ≡ true) ⊎ (b ≡ true)
-or-parts true b h = inl refl
-or-parts false b h = inr h
+use Rattle.search_meaning.proofs.Owners.{role-in, number-is, owner-is, by-number, numbered-in}
 
 module _ {t : Tables} (h : TablesMean t) (accepted : Accepted (executionOf (t .execution))) (x : ℕ) (low : x < operations (executionOf (t .execution)))
     {xs places : List ℕ} {n : ℕ} (p : Placed n xs places) (new : member xs x ≡ false) where
@@ -68,11 +52,11 @@ module _ {t : Tables} (h : TablesMean t) (accepted : Accepted (executionOf (t .e
   owner-low = owner-there (h .compiled) x (omega (arith, h .compiled .tabled .counts))
 
   -- what does not stand, and what stands before what, by places
-  missing-at : (a b : ℕ) → a ≡ b → missingBy places a ≡ missing e x xs b
-  missing-at a b q = ap not (sym (member-placed p a)) ∙ ap (λ (o : ℕ). not (member xs o)) q
+  missing-at : (a : ℕ) → missingBy places a ≡ missing e x xs a
+  missing-at a = ap not (sym (member-placed p a))
 
-  earlier-at : (a b c d : ℕ) → a ≡ c → b ≡ d → beforeBy places a b ≡ before xs c d
-  earlier-at a b c d q r = sym (before-placed p a b) ∙ ap₂ (before xs) q r
+  earlier-at : (a b : ℕ) → beforeBy places a b ≡ before xs a b
+  earlier-at a b = sym (before-placed p a b)
 
   -- the marks of instruction v with the owner of x
   pub conflict-mark : (v : ℕ) → v < t .execution .instructions .count
@@ -93,15 +77,15 @@ module _ {t : Tables} (h : TablesMean t) (accepted : Accepted (executionOf (t .e
   refusal v = refusesBy places (t .execution .instructions) (t .marks) roleNumber owner v
 
   pub load-refusal : (v : ℕ) → roleNumber ≡ 0
-      → refusal v ≡ (hasMark (markAt (t .marks) v owner) 256 && loadLost places (instruction v .first) (instruction v .processor))
-  unfolding refusesBy instructionAt
+      → refusal v ≡ (hasMark (markAt (t .marks) v owner) 256 && loadLost places (instruction v))
+  unfolding refusesBy
   load-refusal v q = rw (eq-eqb roleNumber 0 q) refl
 
   pub store-refusal : (v : ℕ) → (roleNumber ≡ 0 → ⊥) → 3 ≤ roleNumber
       → refusal v
       ≡ (hasMark (markAt (t .marks) v owner) 128
-      && storeLost places (roleNumber - 3) (instruction v .first) (instruction v .processor) (instruction owner .first) (instruction owner .processor))
-  unfolding refusesBy instructionAt
+      && storeLost places (roleNumber - 3) (instruction v) (instruction owner))
+  unfolding refusesBy
   store-refusal v q l = rw (ne-eqb roleNumber 0 q, le-leb 3 roleNumber l) refl
 
   abbrev demanded : Bool
@@ -125,7 +109,7 @@ module _ {t : Tables} (h : TablesMean t) (accepted : Accepted (executionOf (t .e
 
   -- x is the RV to q of store w, and store v refuses it
   store-refuses : (v w : Instruction) (q : ℕ) → List·Memᴰ v (stores e) → List·Memᴰ w (stores e) → q < e .processors → x ≡ numberOf w (RV q) → conflict e v w ≡ true
-      → storeLost places q (v .first) (v .processor) (w .first) (w .processor) ≡ true → is-refused ≡ true
+      → storeLost places q v w ≡ true → is-refused ≡ true
   store-refuses v w q mv mw few at c k =
       let (iw, sw) = is-store e mw in
       let (iv, sv) = is-store e mv in
@@ -139,48 +123,48 @@ module _ {t : Tables} (h : TablesMean t) (accepted : Accepted (executionOf (t .e
           let number = number-RV roleNumber q (sym role) in
           refuses-it i l (store-refusal i (λ z. omega arith) (omega arith)
           ∙ and-both (conflict-mark i l ∙ and-both (and-both (ap (λ (u : Instruction). isStore (u .kind)) (sym vi) ∙ sv) (ap (λ (u : Instruction). isStore (u .kind)) (sym wo) ∙ sw)) (ap₂ (conflict e) (sym vi) (sym wo) ∙ c))
-          (ap (λ (j : ℕ). storeLost places j (instruction i .first) (instruction i .processor) (instruction owner .first) (instruction owner .processor)) (let z : roleNumber - 3 ≡ q = omega arith in z)
-          ∙ ap₂ (λ (a b : Instruction). storeLost places q (a .first) (a .processor) (b .first) (b .processor)) (sym vi) (sym wo) ∙ k))
+          (ap (λ (j : ℕ). storeLost places j (instruction i) (instruction owner)) (let z : roleNumber - 3 ≡ q = omega arith in z)
+          ∙ ap₂ (λ (a b : Instruction). storeLost places q a b) (sym vi) (sym wo) ∙ k))
 
   -- the two ways to be lost
   own-lost : (v w : Instruction) → v .processor ≡ w .processor → before xs (numberOf v LV) (numberOf w LV) ≡ true → missing e x xs (RV-own v) ≡ true
-      → storeLost places (w .processor) (v .first) (v .processor) (w .first) (w .processor) ≡ true
+      → storeLost places (w .processor) v w ≡ true
   unfolding storeLost
   own-lost v w q b m =
-      or-right (beforeBy places (1 + v .first + v .processor) (1 + w .first + w .processor) && missingBy places (1 + v .first + w .processor))
-      (eqb (w .processor) (w .processor) && (eqb (v .processor) (w .processor) && (beforeBy places (v .first) (w .first) && missingBy places (1 + v .first + v .processor))))
+      or-right (beforeBy places (RV-own v) (RV-own w) && missingBy places (numberOf v (RV (w .processor))))
+      (eqb (w .processor) (w .processor) && (eqb (v .processor) (w .processor) && (beforeBy places (numberOf v LV) (numberOf w LV) && missingBy places (RV-own v))))
       (and-both (eq-eqb (w .processor) (w .processor) refl) (and-both (eq-eqb (v .processor) (w .processor) q)
-      (and-both (earlier-at (v .first) (w .first) (v .first) (w .first) refl refl ∙ b) (missing-at (1 + v .first + v .processor) (RV-own v) (omega arith) ∙ m))))
+      (and-both (earlier-at (numberOf v LV) (numberOf w LV) ∙ b) (missing-at (RV-own v) ∙ m))))
 
   remote-lost : (v w : Instruction) (q : ℕ) → before xs (RV-own v) (RV-own w) ≡ true → missing e x xs (numberOf v (RV q)) ≡ true
-      → storeLost places q (v .first) (v .processor) (w .first) (w .processor) ≡ true
+      → storeLost places q v w ≡ true
   unfolding storeLost
   remote-lost v w q b m =
-      ap (λ (u : Bool). u || (eqb q (w .processor) && (eqb (v .processor) (w .processor) && (beforeBy places (v .first) (w .first) && missingBy places (1 + v .first + v .processor)))))
-      (and-both (earlier-at (1 + v .first + v .processor) (1 + w .first + w .processor) (RV-own v) (RV-own w) (omega arith) (omega arith) ∙ b)
-      (missing-at (1 + v .first + q) (numberOf v (RV q)) (omega arith) ∙ m))
+      ap (λ (u : Bool). u || (eqb q (w .processor) && (eqb (v .processor) (w .processor) && (beforeBy places (numberOf v LV) (numberOf w LV) && missingBy places (RV-own v)))))
+      (and-both (earlier-at (RV-own v) (RV-own w) ∙ b)
+      (missing-at (numberOf v (RV q)) ∙ m))
 
-  lost-parts : (v w : Instruction) (q : ℕ) → storeLost places q (v .first) (v .processor) (w .first) (w .processor) ≡ true
+  lost-parts : (v w : Instruction) (q : ℕ) → storeLost places q v w ≡ true
       → ((before xs (RV-own v) (RV-own w) ≡ true) × (missing e x xs (numberOf v (RV q)) ≡ true))
       ⊎ ((q ≡ w .processor) × (eqb (v .processor) (w .processor) ≡ true) × (before xs (numberOf v LV) (numberOf w LV) ≡ true) × (missing e x xs (RV-own v) ≡ true))
   unfolding storeLost
-  lost-parts v w q k = go (or-parts (beforeBy places (1 + v .first + v .processor) (1 + w .first + w .processor) && missingBy places (1 + v .first + q)) _ k)
+  lost-parts v w q k = go (or-parts (beforeBy places (RV-own v) (RV-own w) && missingBy places (numberOf v (RV q))) _ k)
     where
-      go : ((beforeBy places (1 + v .first + v .processor) (1 + w .first + w .processor) && missingBy places (1 + v .first + q)) ≡ true)
-          ⊎ ((eqb q (w .processor) && (eqb (v .processor) (w .processor) && (beforeBy places (v .first) (w .first) && missingBy places (1 + v .first + v .processor)))) ≡ true)
+      go : ((beforeBy places (RV-own v) (RV-own w) && missingBy places (numberOf v (RV q))) ≡ true)
+          ⊎ ((eqb q (w .processor) && (eqb (v .processor) (w .processor) && (beforeBy places (numberOf v LV) (numberOf w LV) && missingBy places (RV-own v)))) ≡ true)
           → ((before xs (RV-own v) (RV-own w) ≡ true) × (missing e x xs (numberOf v (RV q)) ≡ true))
           ⊎ ((q ≡ w .processor) × (eqb (v .processor) (w .processor) ≡ true) × (before xs (numberOf v LV) (numberOf w LV) ≡ true) × (missing e x xs (RV-own v) ≡ true))
       go (inl a) =
-          let (b, m) = and-parts (beforeBy places (1 + v .first + v .processor) (1 + w .first + w .processor)) (missingBy places (1 + v .first + q)) a in
+          let (b, m) = and-parts (beforeBy places (RV-own v) (RV-own w)) (missingBy places (numberOf v (RV q))) a in
           inl (
-            sym (earlier-at (1 + v .first + v .processor) (1 + w .first + w .processor) (RV-own v) (RV-own w) (omega arith) (omega arith)) ∙ b,
-            sym (missing-at (1 + v .first + q) (numberOf v (RV q)) (omega arith)) ∙ m,
+            sym (earlier-at (RV-own v) (RV-own w)) ∙ b,
+            sym (missing-at (numberOf v (RV q))) ∙ m,
           )
       go (inr a) =
-          let (a1, a2) = and-parts (eqb q (w .processor)) (eqb (v .processor) (w .processor) && (beforeBy places (v .first) (w .first) && missingBy places (1 + v .first + v .processor))) a in
-          let (a3, a4) = and-parts (eqb (v .processor) (w .processor)) (beforeBy places (v .first) (w .first) && missingBy places (1 + v .first + v .processor)) a2 in
-          let (b, m) = and-parts (beforeBy places (v .first) (w .first)) (missingBy places (1 + v .first + v .processor)) a4 in
-          inr (eqb-true q (w .processor) a1, a3, sym (earlier-at (v .first) (w .first) (v .first) (w .first) refl refl) ∙ b, sym (missing-at (1 + v .first + v .processor) (RV-own v) (omega arith)) ∙ m)
+          let (a1, a2) = and-parts (eqb q (w .processor)) (eqb (v .processor) (w .processor) && (beforeBy places (numberOf v LV) (numberOf w LV) && missingBy places (RV-own v))) a in
+          let (a3, a4) = and-parts (eqb (v .processor) (w .processor)) (beforeBy places (numberOf v LV) (numberOf w LV) && missingBy places (RV-own v)) a2 in
+          let (b, m) = and-parts (beforeBy places (numberOf v LV) (numberOf w LV)) (missingBy places (RV-own v)) a4 in
+          inr (eqb-true q (w .processor) a1, a3, sym (earlier-at (numberOf v LV) (numberOf w LV)) ∙ b, sym (missing-at (RV-own v)) ∙ m)
 
   -- rule 9
   own-refused : any (lost e x xs) (ownDemands e x) ≡ true → is-refused ≡ true
@@ -215,10 +199,10 @@ module _ {t : Tables} (h : TablesMean t) (accepted : Accepted (executionOf (t .e
           store-refuses v w q mv mw (in-processors e mq) (eqb-true x (numberOf w (RV q)) a) c (remote-lost v w q k1 k2)
 
   -- rule 14
-  load-lost : (w : Instruction) → loadLost places (w .first) (w .processor) ≡ (before xs (numberOf w LV) x && missing e x xs (RV-own w))
+  load-lost : (w : Instruction) → loadLost places w ≡ (before xs (numberOf w LV) x && missing e x xs (RV-own w))
   unfolding loadLost
   load-lost w =
-      ap₂ _&&_ (sym (member-placed p (w .first)) ∙ sym (before-absent xs (w .first) x new)) (missing-at (1 + w .first + w .processor) (RV-own w) (omega arith))
+      ap₂ _&&_ (sym (member-placed p (numberOf w LV)) ∙ sym (before-absent xs (numberOf w LV) x new)) (missing-at (RV-own w))
 
   bypass-refused : any (lost e x xs) (bypassDemands e x) ≡ true → is-refused ≡ true
   unfolding bypassDemands
@@ -237,7 +221,7 @@ module _ {t : Tables} (h : TablesMean t) (accepted : Accepted (executionOf (t .e
           refuses-it i li (load-refusal i (number-R roleNumber (sym role))
           ∙ and-both (bypass-mark i li
           ∙ and-both (and-both (ap (λ (u : Instruction). isStore (u .kind)) (sym wi) ∙ sw) (ap (λ (u : Instruction). isLoad (u .kind)) (sym lo) ∙ sl)) (ap₂ exposed (sym wi) (sym lo) ∙ c))
-          (ap (λ (u : Instruction). loadLost places (u .first) (u .processor)) (sym wi) ∙ load-lost w ∙ k))
+          (ap (λ (u : Instruction). loadLost places u) (sym wi) ∙ load-lost w ∙ k))
 
   -- x as an operation of its instruction
   x-is : (r : Role) → roleNumbered roleNumber ≡ r → eqb x (numberOf (instruction owner) r) ≡ true
@@ -245,12 +229,12 @@ module _ {t : Tables} (h : TablesMean t) (accepted : Accepted (executionOf (t .e
 
   -- the processor of an RV
   pub remote-few : (q : ℕ) → roleNumbered roleNumber ≡ RV q → q < e .processors
-  remote-few q r = role-few (instruction owner .kind) (subst (λ (s : Role). List·Memᴰ s (roles (e .processors) (instruction owner .kind))) r (role-in h accepted x low))
+  remote-few q r = RV-few (e .processors) q (instruction owner .kind) (subst (λ (s : Role). List·Memᴰ s (roles (e .processors) (instruction owner .kind))) r (role-in h accepted x low))
 
   bypass-demanded : (v : ℕ) → v < t .execution .instructions .count → roleNumber ≡ 0 → refusal v ≡ true → any (lost e x xs) (bypassDemands e x) ≡ true
   unfolding bypassDemands
   bypass-demanded v l q r =
-      let (m, k) = and-parts (hasMark (markAt (t .marks) v owner) 256) (loadLost places (instruction v .first) (instruction v .processor)) (sym (load-refusal v q) ∙ r) in
+      let (m, k) = and-parts (hasMark (markAt (t .marks) v owner) 256) (loadLost places (instruction v)) (sym (load-refusal v q) ∙ r) in
       let (m1, c) = and-parts (isStore (instruction v .kind) && isLoad (instruction owner .kind)) (exposed (instruction v) (instruction owner)) (sym (bypass-mark v l) ∙ m) in
       let (sv, sl) = and-parts (isStore (instruction v .kind)) (isLoad (instruction owner .kind)) m1 in
       pair-passes (lost e x xs) (stores e) (loads e) (λ w l. exposed w l && eqb x (numberOf l R)) (λ w l. (numberOf w LV, x, RV-own w) ∷ [])

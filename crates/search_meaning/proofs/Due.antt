@@ -3,18 +3,19 @@ use Prim.Native.Nat.{ℕ, _<_}
 use native.Mathlib.Omega.{arith}
 use mathlib.Core.Path.{_≡_, refl, sym, ap, _∙_, subst}
 use mathlib.Core.Bool.{Bool, true, false, not, _&&_, _||_, or-false}
-use mathlib.Core.List.{List, [], _∷_, _++_, List·Memᴰ, List·Memᴰ·head, List·Memᴰ·tail, Memᴰ·of-map}
-use lib.Dec.{eqb, ltb}
-use borrow.Author.Tests.{eq-eqb, ne-eqb, lt-ltb, ltb-true, not-true}
+use mathlib.Core.List.{List, [], _∷_, _++_, List·Memᴰ, List·Memᴰ·head, List·Memᴰ·tail}
+use lib.Dec.{eqb}
+use borrow.Author.Tests.{eq-eqb, ne-eqb, lt-ltb, not-true}
 use Rattle.base.specs.Lists.{any, member, distinct}
 use Rattle.base.specs.Below.{allBelow}
 use Rattle.base.proofs.Bools.{split, clash, is-false, and-parts, and-both, or-right}
 use Rattle.base.proofs.Lists.{any-witness, any-member, in-keep, in-for, in-below, member-in, in-member, member-append, distinct-entry}
 use Rattle.base.proofs.Tests.{all-fails, all-below}
 use Rattle.model.specs.Execution as model
-use Rattle.model.specs.Execution.{Instruction, isRelease, RV, numberOf, stores, operations, everyProcessor}
+use Rattle.model.specs.Execution.{Instruction, isRelease, stores, operations}
 use Rattle.model.specs.Rules.{before, inWB, Claim, never, remoteOf, rule12, rules, broken, consistent}
 use Rattle.model.specs.Accepted.{Accepted}
+use Rattle.model.proofs.Roles.{RV-role}
 use Rattle.model.proofs.Before.{before-stays}
 use Rattle.record_decoded.specs.Decoded.{executionOf}
 use Rattle.search_sets.specs.Set.{holds}
@@ -22,7 +23,7 @@ use Rattle.search_reduction.specs.Admits.{missing, interrupts}
 use Rattle.search_reduction.proofs.Pairs.{any-fails}
 use Rattle.search_reduction.proofs.Settled.{before-absent}
 use Rattle.search_reduction.proofs.Links.{kept}
-use Rattle.search_reduction.proofs.Ownership.{RV-role, in-processors, is-store, RV-in, one-owner}
+use Rattle.search_reduction.proofs.Ownership.{RV-of, is-store, RV-in, one-owner}
 use Rattle.search_admit.specs.Rows.{partner, partnerBy}
 use Rattle.search_meaning.proofs.Tables.{Tables, TablesMean}
 use Rattle.search_meaning.proofs.Owners.{number-low}
@@ -48,17 +49,12 @@ abbrev opens : model.Execution → Instruction → Bool
 opens e w = isRelease (w .kind) && inWB e w
 
 module _ (e : model.Execution) where
-  -- an RV by its processor
-  RV-of : (w : Instruction) {a : ℕ} → List·Memᴰ a (remoteOf e w) → (q : ℕ) × (q < e .processors) × (numberOf w (RV q) ≡ a)
-  unfolding remoteOf
-  RV-of w m = let (q, mq, k) = Memᴰ·of-map (λ q. numberOf w (RV q)) (everyProcessor e) m in (q, in-processors e mq, k)
-
   -- an operation is an RV of one store only
   one-store : Accepted e → {v w : Instruction} {o : ℕ} → List·Memᴰ v (stores e) → List·Memᴰ w (stores e)
       → List·Memᴰ o (remoteOf e v) → List·Memᴰ o (remoteOf e w) → v ≡ w
   one-store accepted {v} {w} mv mw ov ow =
-      let (p, lp, kp) = RV-of v ov in
-      let (q, lq, kq) = RV-of w ow in
+      let (p, lp, kp) = RV-of e v ov in
+      let (q, lq, kq) = RV-of e w ow in
       let (iv, sv) = is-store e mv in
       let (iw, sw) = is-store e mw in
       one-owner e accepted iv iw (RV-role (e .processors) (v .kind) p lp sv) (RV-role (e .processors) (w .kind) q lq sw) (kp ∙ sym kq)

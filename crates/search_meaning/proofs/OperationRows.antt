@@ -3,18 +3,21 @@ use Prim.Native.Nat.{ℕ, _+_, _-_, _≤_, _<_}
 use native.Mathlib.Omega.{arith}
 use mathlib.Core.Path.{_≡_, sym, ap, _∙_}
 use mathlib.Core.Bool.{Bool, true, false, cond, _||_, or-true}
-use mathlib.Core.List.{List, List·Memᴰ}
+use mathlib.Core.List.{List·Memᴰ}
 use lib.ListN.{getD}
 use lib.Dec.{eqb}
 use borrow.Author.Tests.{le-leb}
 use Rattle.model.specs.Execution as model
-use Rattle.model.specs.Execution.{Instruction, RV, numberOf, stores, operations}
+use Rattle.model.specs.Execution.{Instruction, LV, RV, numberOf, stores, operations}
+use Rattle.model.specs.Rules.{RV-own}
 use Rattle.model.specs.Accepted.{Accepted}
+use Rattle.model.proofs.Roles.{RV-role}
 use Rattle.record_decoded.specs.Decoded.{instructionAt, executionOf}
-use Rattle.search_reduction.proofs.Ownership.{is-store, RV-in, RV-role}
+use Rattle.record_decoded.proofs.RoleNumbers.{number-RV}
+use Rattle.search_reduction.proofs.Ownership.{is-store, RV-in}
 use Rattle.search_admit.specs.Rows.{ownOf, localOf, writes}
 use Rattle.search_meaning.proofs.Tables.{Tables, TablesMean}
-use Rattle.search_meaning.proofs.Owners.{number-RV, owner-is, number-low}
+use Rattle.search_meaning.proofs.Owners.{owner-is, number-low}
 
 -- an RV writes
 pub RV-writes : (k : ℕ) → 3 ≤ k → writes k ≡ true
@@ -38,26 +41,22 @@ module _ {t : Tables} (h : TablesMean t) (accepted : Accepted (executionOf (t .e
     pub low : o < operations e
     pub owner-is : w ≡ instruction (owner o)
     pub role-is : roleOf o ≡ 3 + q
-    pub own : ownOf (t .rows) o ≡ 1 + w .first + w .processor
-    pub local : localOf (t .rows) o ≡ w .first
+    pub own : ownOf (t .rows) o ≡ RV-own w
+    pub local : localOf (t .rows) o ≡ numberOf w LV
 
   -- what writes, by its owner
-  pub own-by : (o : ℕ) → o < operations e → writes (roleOf o) ≡ true → ownOf (t .rows) o ≡ 1 + instruction (owner o) .first + instruction (owner o) .processor
-  unfolding instructionAt
-  own-by o l w = h .rowed o l .own-is ∙ ap (λ (b : Bool). cond b (1 + instruction (owner o) .first + instruction (owner o) .processor) o) w
+  pub own-by : (o : ℕ) → o < operations e → writes (roleOf o) ≡ true → ownOf (t .rows) o ≡ RV-own (instruction (owner o))
+  own-by o l w = h .rowed o l .own-is ∙ ap (λ (b : Bool). cond b (RV-own (instruction (owner o))) o) w
 
-  pub local-by : (o : ℕ) → o < operations e → writes (roleOf o) ≡ true → localOf (t .rows) o ≡ instruction (owner o) .first
-  unfolding instructionAt
-  local-by o l w = h .rowed o l .local-is ∙ ap (λ (b : Bool). cond b (instruction (owner o) .first) o) w
+  pub local-by : (o : ℕ) → o < operations e → writes (roleOf o) ≡ true → localOf (t .rows) o ≡ numberOf (instruction (owner o)) LV
+  local-by o l w = h .rowed o l .local-is ∙ ap (λ (b : Bool). cond b (numberOf (instruction (owner o)) LV) o) w
 
   -- what does not write is alone
   pub own-itself : (o : ℕ) → o < operations e → writes (roleOf o) ≡ false → ownOf (t .rows) o ≡ o
-  unfolding instructionAt
-  own-itself o l w = h .rowed o l .own-is ∙ ap (λ (b : Bool). cond b (1 + instruction (owner o) .first + instruction (owner o) .processor) o) w
+  own-itself o l w = h .rowed o l .own-is ∙ ap (λ (b : Bool). cond b (RV-own (instruction (owner o))) o) w
 
   pub local-itself : (o : ℕ) → o < operations e → writes (roleOf o) ≡ false → localOf (t .rows) o ≡ o
-  unfolding instructionAt
-  local-itself o l w = h .rowed o l .local-is ∙ ap (λ (b : Bool). cond b (instruction (owner o) .first) o) w
+  local-itself o l w = h .rowed o l .local-is ∙ ap (λ (b : Bool). cond b (numberOf (instruction (owner o)) LV) o) w
 
   pub is-RV : {w : Instruction} → List·Memᴰ w (stores e) → (q : ℕ) → q < e .processors → (o : ℕ) → o ≡ numberOf w (RV q) → IsRV w q o
   is-RV {w} mw q few o at =
@@ -70,6 +69,6 @@ module _ {t : Tables} (h : TablesMean t) (accepted : Accepted (executionOf (t .e
         low = low;
         owner-is = same;
         role-is = number;
-        own = own-by o low written ∙ ap (λ (i : Instruction). 1 + i .first + i .processor) (sym same);
-        local = local-by o low written ∙ ap (λ (i : Instruction). i .first) (sym same);
+        own = own-by o low written ∙ ap RV-own (sym same);
+        local = local-by o low written ∙ ap (λ (i : Instruction). numberOf i LV) (sym same);
       }

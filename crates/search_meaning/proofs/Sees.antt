@@ -3,30 +3,32 @@ use Prim.Native.Nat.{ℕ, _+_, _*_, _-_, _/_, _%_, _<_}
 use native.Mathlib.Omega.{arith}
 use mathlib.Core.Path.{_≡_, refl, sym, ap, ap₂, _∙_, subst}
 use mathlib.Core.Bool.{Bool, true, false, not, cond, _&&_, _||_}
-use mathlib.Core.List.{List, [], map, List·Memᴰ, List·Memᴰ·cases-cons, List·Memᴰ·eq-of-singleton, Memᴰ·of-map}
-use mathlib.Core.Logic.{_⊎_, inl, inr}
+use mathlib.Core.List.{List, [], map, List·Memᴰ, Memᴰ·of-map}
 use lib.ListN.{length, getD, drop, length-drop}
 use lib.Seq.{length-take-le}
 use lib.Dec.{eqb, leb, ltb}
 use borrow.Author.Tests.{eq-eqb, eqb-true, le-leb, leb-true, ltb-true, lt-ltb, not-true}
-use Rattle.base.specs.Lists.{any, keep, count, below, member, distinct}
+use Rattle.base.specs.Lists.{any, keep, count, member, distinct}
 use Rattle.base.specs.Below.{allBelow, anyBelow}
 use Rattle.base.specs.Bits.{bit}
 use Rattle.base.proofs.Bools.{agree, split, clash, is-false, and-parts, and-both}
 use Rattle.base.proofs.Lists.{any-witness, any-member, any-map, any-keep, any-for, any-when, in-keep, of-keep, in-count, of-count, keep-map, map-map, distinct-in}
 use Rattle.base.proofs.Tests.{some-at, any-passes, all-at, all-below}
 use Rattle.model.specs.Execution as model
-use Rattle.model.specs.Execution.{Kind, ld, ld-acq, st, st-rel, mf, Instruction, Role, R, LV, RV, isLoad, isStore, roles, numberOf, stores, loads, operations, initialByte}
-use Rattle.model.specs.Rules.{accesses, addresses, byteWritten, byteSeen, Writer, Sight, sightOf}
+use Rattle.model.specs.Execution.{Instruction, Role, R, LV, RV, isLoad, isStore, roles, numberOf, stores, loads, operations, initialByte}
+use Rattle.model.specs.Rules.{RV-own, accesses, addresses, byteWritten, byteSeen, Writer, Sight, sightOf}
 use Rattle.model.specs.Accepted.{Accepted, Sound}
+use Rattle.model.proofs.Roles.{R-role, R-load}
+use Rattle.model.proofs.Numbers.{before-remotes}
 use Rattle.record_decoded.specs.Decoded.{instructionAt, executionOf}
+use Rattle.record_decoded.proofs.RoleNumbers.{number-R, role-R}
 use Rattle.search_reduction.specs.Admits.{lastByte, missing, byteNow, unseen, sights}
-use Rattle.search_reduction.proofs.Ownership.{each-in, is-store, is-load, R-role, store-processor}
+use Rattle.search_reduction.proofs.Ownership.{each-in, is-store, is-load, store-processor}
 use Rattle.search_sets.specs.Set.{holds}
 use Rattle.search_admit.specs.Rows.{bypasses, bypassOf, writtenBits, localOf, readBits, readData, visibleWord, ownWord, visibleAt, ownAt, covers, dataBit, firstWords, wordsAfter}
 use Rattle.search_admit.specs.Fits.{bothOrNeither, pending, localBit, readsRecorded, Standing}
 use Rattle.search_meaning.proofs.Tables.{Tables, TablesMean}
-use Rattle.search_meaning.proofs.Owners.{number-R, role-R, role-in, owner-in, owner-is, number-is, by-number, numbered-in}
+use Rattle.search_meaning.proofs.Owners.{role-in, owner-in, owner-is, number-is, by-number, numbered-in}
 use Rattle.search_meaning.proofs.OperationRows.{RV-writes, IsRV, is-RV}
 use Rattle.search_meaning.proofs.Bytes.{Within, same-byte, accesses-within, covers-is, data-is, byte-small, initial-at}
 use Rattle.search_meaning.proofs.Words.{last-below, words-are}
@@ -43,19 +45,6 @@ same-refl : (a b : Bool) → a ≡ b → bothOrNeither a b ≡ true
 unfolding bothOrNeither
 same-refl true b h = sym h
 same-refl false b h = ap not (sym h)
-
--- an R is a load's
-not-stored : (p : ℕ) → (R ≡ LV) ⊎ List·Memᴰ R (map RV (below p)) → ⊥
-not-stored p (inl h) = let z : _≡_ {A = ℕ} 0 1 = cc in omega arith
-not-stored p (inr k) = let (q, mq, h) = Memᴰ·of-map RV (below p) k in let z : _≡_ {A = ℕ} 0 1 = cc in omega arith
-
-R-load : (p : ℕ) (k : Kind) → List·Memᴰ R (roles p k) → isLoad k ≡ true
-unfolding roles
-R-load p ld m = refl
-R-load p ld-acq m = refl
-R-load p st m = absurd (not-stored p (List·Memᴰ·cases-cons m))
-R-load p st-rel m = absurd (not-stored p (List·Memᴰ·cases-cons m))
-R-load p mf m = let z : _≡_ {A = ℕ} 0 1 = (let w = List·Memᴰ·eq-of-singleton m in cc) in absurd (omega arith)
 
 -- the bytes of an access
 of-reach : (i : Instruction) (b : ℕ) → List·Memᴰ b (addresses i) → accesses i b ≡ true
@@ -168,7 +157,7 @@ module _ {t : Tables} (h : TablesMean t) (accepted : Accepted (executionOf (t .e
 
     bypass-is : (v m : ℕ) → bypassAt v m
         ≡ (isStore (instruction v .kind) && (eqb (instruction v .processor) (load .processor) && eqb (instruction v .address / 8) (load .address / 8))
-        && eqb m (1 + instruction v .first + instruction v .processor))
+        && eqb m (RV-own (instruction v)))
     unfolding instructionAt
     bypass-is v m = rw (eq-eqb role 0 reads) refl
 
@@ -182,13 +171,13 @@ module _ {t : Tables} (h : TablesMean t) (accepted : Accepted (executionOf (t .e
       mv = in-keep (λ i. isStore (i .kind)) (numbered-in t v lv) sv
 
       abbrev m : ℕ
-      m = 1 + instruction v .first + instruction v .processor
+      m = RV-own (instruction v)
 
       rv : IsRV h accepted (instruction v) (instruction v .processor) m
-      rv = is-RV h accepted mv (instruction v .processor) (store-processor e accepted mv) m (omega arith)
+      rv = is-RV h accepted mv (instruction v .processor) (store-processor e accepted mv) m refl
 
-      first-low : instruction v .first < operations e
-      first-low = omega (arith, rv .low)
+      local-low : numberOf (instruction v) LV < operations e
+      local-low = omega (arith, rv .low, before-remotes (instruction v .kind) LV refl)
 
       wrote-bit : instruction v .address / 8 ≡ b / 8 → bit (writtenBits (t .rows) m) i ≡ accesses (instruction v) b
       wrote-bit line =
@@ -200,10 +189,10 @@ module _ {t : Tables} (h : TablesMean t) (accepted : Accepted (executionOf (t .e
       stands-local : (ltb (localOf (t .rows) m) 128 && holds lo hi (localOf (t .rows) m)) ≡ member xs (numberOf (instruction v) LV)
       stands-local =
           ap (λ (o : ℕ). ltb o 128 && holds lo hi o) (rv .local)
-          ∙ ap₂ _&&_ (lt-ltb (instruction v .first) 128 (omega (arith, first-low, accepted .operations-few))) (is-member (instruction v .first) first-low)
+          ∙ ap₂ _&&_ (lt-ltb (numberOf (instruction v) LV) 128 (omega (arith, local-low, accepted .operations-few))) (is-member (numberOf (instruction v) LV) local-low)
 
       absent : not (holds lo hi m) ≡ not (member xs (numberOf (instruction v) (RV (load .processor))))
-      absent = ap not (is-member m (rv .low) ∙ ap (member xs) (omega (arith, own)))
+      absent = ap not (is-member m (rv .low) ∙ ap (λ (q : ℕ). member xs (numberOf (instruction v) (RV q))) own)
 
     local-is : localBit (t .rows) lo hi x i ≡ any (λ w. w .own && (member xs (w .lv) && missing e x xs (w .rv))) (sight .writers)
     unfolding localBit pending
@@ -221,16 +210,16 @@ module _ {t : Tables} (h : TablesMean t) (accepted : Accepted (executionOf (t .e
       where
         from : (v m : ℕ) → v < t .execution .instructions .count
             → (isStore (instruction v .kind) && (eqb (instruction v .processor) (load .processor) && eqb (instruction v .address / 8) (load .address / 8))
-            && eqb m (1 + instruction v .first + instruction v .processor)) ≡ true
+            && eqb m (RV-own (instruction v))) ≡ true
             → not (holds lo hi m) ≡ true → (ltb (localOf (t .rows) m) 128 && holds lo hi (localOf (t .rows) m)) ≡ true → bit (writtenBits (t .rows) m) i ≡ true
             → any (λ w. accesses w b && pends w) (stores e) ≡ true
         from v m l r gone stands wrote =
-            let (r0, r5) = and-parts (isStore (instruction v .kind) && (eqb (instruction v .processor) (load .processor) && eqb (instruction v .address / 8) (load .address / 8))) (eqb m (1 + instruction v .first + instruction v .processor)) r in
+            let (r0, r5) = and-parts (isStore (instruction v .kind) && (eqb (instruction v .processor) (load .processor) && eqb (instruction v .address / 8) (load .address / 8))) (eqb m (RV-own (instruction v))) r in
             let (sv, r1) = and-parts (isStore (instruction v .kind)) (eqb (instruction v .processor) (load .processor) && eqb (instruction v .address / 8) (load .address / 8)) r0 in
             let (r2, r4) = and-parts (eqb (instruction v .processor) (load .processor)) (eqb (instruction v .address / 8) (load .address / 8)) r1 in
             let own = eqb-true (instruction v .processor) (load .processor) r2 in
             let line : instruction v .address / 8 ≡ b / 8 = eqb-true (instruction v .address / 8) (load .address / 8) r4 ∙ sym (its .one-line) in
-            let is : m ≡ 1 + instruction v .first + instruction v .processor = eqb-true m (1 + instruction v .first + instruction v .processor) r5 in
+            let is : m ≡ RV-own (instruction v) = eqb-true m (RV-own (instruction v)) r5 in
             any-member _ (mv v l sv own)
             (and-both (sym (wrote-bit v l sv own line) ∙ ap (λ (o : ℕ). bit (writtenBits (t .rows) o) i) (sym is) ∙ wrote)
             (and-both r2 (and-both (sym (stands-local v l sv own) ∙ ap (λ (o : ℕ). ltb (localOf (t .rows) o) 128 && holds lo hi (localOf (t .rows) o)) (sym is) ∙ stands)

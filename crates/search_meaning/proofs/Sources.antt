@@ -1,9 +1,9 @@
 -- Which operations write a byte of memory: the RVs to a processor, and the LVs of its own stores.
-use Prim.Native.Nat.{ℕ, zero, suc, _+_, _*_, _-_, _/_, _%_, _≤_, _<_}
+use Prim.Native.Nat.{ℕ, _+_, _*_, _-_, _/_, _%_, _≤_, _<_}
 use native.Mathlib.Omega.{arith}
 use mathlib.Core.Path.{_≡_, refl, sym, ap, ap₂, _∙_, subst}
 use mathlib.Core.Bool.{Bool, true, false, cond, _&&_, _||_}
-use mathlib.Core.List.{List, map, List·Memᴰ, List·Memᴰ·eq-of-singleton, Memᴰ·of-map}
+use mathlib.Core.List.{List, map, List·Memᴰ, Memᴰ·of-map}
 use lib.ListN.{length, getD}
 use lib.Dec.{eqb, leb}
 use borrow.Author.Tests.{eq-eqb, ne-eqb, eqb-true, leb-true}
@@ -12,50 +12,24 @@ use Rattle.base.specs.Bits.{bit}
 use Rattle.base.proofs.Bools.{agree, split, clash, is-false, and-parts, and-both}
 use Rattle.base.proofs.Lists.{any-witness, any-member, any-map, any-keep, of-keep, in-keep}
 use Rattle.model.specs.Execution as model
-use Rattle.model.specs.Execution.{Kind, ld, ld-acq, st, st-rel, mf, Instruction, Role, LV, RV, isStore, roles, numberOf, stores, operations}
+use Rattle.model.specs.Execution.{Instruction, Role, LV, RV, isStore, roles, numberOf, stores, operations}
 use Rattle.model.specs.Rules.{accesses, byteWritten}
 use Rattle.model.specs.Accepted.{Accepted, Sound}
+use Rattle.model.proofs.Roles.{LV-role, RV-role, LV-store, RV-store, RV-few}
 use Rattle.record_decoded.specs.Kinds.{roleNumbered}
 use Rattle.record_decoded.specs.Decoded.{instructionAt, executionOf}
+use Rattle.record_decoded.proofs.RoleNumbers.{number-LV, role-LV, number-RV, role-RV}
 use Rattle.search_admit.specs.Rows.{writtenBits, writtenData, writtenWord, visibleAt, ownAt, covers, dataBit, writes}
-use Rattle.search_reduction.proofs.Ownership.{each-in, is-store, LV-role, RV-role}
+use Rattle.search_reduction.proofs.Ownership.{each-in, is-store}
 use Rattle.search_meaning.proofs.Tables.{Tables, TablesMean}
-use Rattle.search_meaning.proofs.Owners.{number-RV, role-RV, role-in, owner-in, owner-is, number-is}
-use Rattle.search_meaning.proofs.Demands.{role-few}
+use Rattle.search_meaning.proofs.Owners.{role-in, owner-in, owner-is, number-is}
 use Rattle.search_meaning.proofs.OperationRows.{RV-writes}
 use Rattle.search_meaning.proofs.Bytes.{accesses-within, covers-is, data-is}
 use Rattle.search_meaning.proofs.Words.{byte-is, Does}
 
--- roles by their numbers
-number-LV : (k : ℕ) → roleNumbered k ≡ LV → k ≡ 1
-number-LV zero h = let z : _≡_ {A = ℕ} 0 1 = cc in absurd (omega arith)
-number-LV (suc zero) h = refl
-number-LV (suc (suc zero)) h = let z : _≡_ {A = ℕ} 0 1 = cc in absurd (omega arith)
-number-LV (suc (suc (suc q))) h = let z : _≡_ {A = ℕ} 0 1 = cc in absurd (omega arith)
-
-role-LV : (k : ℕ) → k ≡ 1 → roleNumbered k ≡ LV
-role-LV k h = ap roleNumbered h
-
 -- what writes is an LV or an RV
 writes-role : (k : ℕ) → writes k ≡ true → (k ≡ 1 → ⊥) → 3 ≤ k
 writes-role k h other = split (leb 3 k) (λ l. leb-true 3 k l) (λ l. clash h (ap₂ _||_ (ne-eqb k 1 other) l))
-
--- an LV or an RV is a store's
-LV-store : (p : ℕ) (k : Kind) → List·Memᴰ LV (roles p k) → isStore k ≡ true
-unfolding roles
-LV-store p ld m = let z : _≡_ {A = ℕ} 0 1 = (let w = List·Memᴰ·eq-of-singleton m in cc) in absurd (omega arith)
-LV-store p ld-acq m = let z : _≡_ {A = ℕ} 0 1 = (let w = List·Memᴰ·eq-of-singleton m in cc) in absurd (omega arith)
-LV-store p st m = refl
-LV-store p st-rel m = refl
-LV-store p mf m = let z : _≡_ {A = ℕ} 0 1 = (let w = List·Memᴰ·eq-of-singleton m in cc) in absurd (omega arith)
-
-RV-store : (p q : ℕ) (k : Kind) → List·Memᴰ (RV q) (roles p k) → isStore k ≡ true
-unfolding roles
-RV-store p q ld m = let z : _≡_ {A = ℕ} 0 1 = (let w = List·Memᴰ·eq-of-singleton m in cc) in absurd (omega arith)
-RV-store p q ld-acq m = let z : _≡_ {A = ℕ} 0 1 = (let w = List·Memᴰ·eq-of-singleton m in cc) in absurd (omega arith)
-RV-store p q st m = refl
-RV-store p q st-rel m = refl
-RV-store p q mf m = let z : _≡_ {A = ℕ} 0 1 = (let w = List·Memᴰ·eq-of-singleton m in cc) in absurd (omega arith)
 
 module _ {t : Tables} (h : TablesMean t) (accepted : Accepted (executionOf (t .execution))) where
   abbrev e : model.Execution
@@ -119,7 +93,7 @@ module _ {t : Tables} (h : TablesMean t) (accepted : Accepted (executionOf (t .e
 
     remote-low : 3 ≤ role → role - 3 < 8
     remote-low r =
-        omega (arith, accepted .processors-few, role-few (its .kind) (subst (λ (s : Role). List·Memᴰ s (roles (e .processors) (its .kind))) (role-RV role r) its-role))
+        omega (arith, accepted .processors-few, RV-few (e .processors) _ (its .kind) (subst (λ (s : Role). List·Memᴰ s (roles (e .processors) (its .kind))) (role-RV role r) its-role))
 
     -- what is written, where a test of the operation says that it writes this byte to word c
     module _ (c : ℕ) (wanted : Bool)

@@ -1,44 +1,41 @@
 -- In an accepted record no operation must stand before itself, since each dependence pair has an earlier and a later instruction.
-use Prim.Native.Nat.{ℕ, suc, _+_}
+use Prim.Native.Nat.{ℕ}
 use native.Mathlib.Omega.{arith}
 use mathlib.Core.Path.{_≡_, refl, sym, ap, _∙_, subst}
-use mathlib.Core.Bool.{Bool, true, false, not, _&&_, _||_, false≢true}
+use mathlib.Core.Bool.{true, false, not, _&&_, _||_, false≢true}
 use mathlib.Core.List.{List, List·Memᴰ, Memᴰ·of-map}
 use lib.Dec.{eqb, ltb}
 use borrow.Author.Tests.{eqb-true, eqb-false, ne-eqb, ltb-true, not-true}
 use Rattle.base.specs.Lists.{any}
-use Rattle.base.proofs.Bools.{split, and-parts, and-left}
+use Rattle.base.proofs.Bools.{split, and-parts, and-left, or-cases}
 use Rattle.base.proofs.Lists.{any-same, any-witness, of-for}
-use Rattle.model.specs.Execution.{Instruction, Execution, Role, R, LV, F, RV, roles, numberOf, Operation, operationsOf, allOperations}
-use Rattle.model.specs.Rules.{hasRoleLV, hasRoleRV, isLV, isOwnRV, isOtherRV, sameInstruction, earlier, link1, link2, link3, link4, link5, link6, link7, paired, link8, link13, linksOf, linked}
+use Rattle.model.specs.Execution.{Instruction, Execution, Role, R, LV, F, RV, roles, remotesAt, numberOf, Operation, operationsOf, allOperations, hasRoleLV, hasRoleRV}
+use Rattle.model.specs.Rules.{isLV, isOwnRV, isOtherRV, sameInstruction, earlier, link1, link2, link3, link4, link5, link6, link7, paired, link8, link13, linksOf, linked}
 use Rattle.model.specs.Accepted.{Rises, Accepted}
+use Rattle.model.proofs.Numbers.{before-remotes}
 use Rattle.search_reduction.specs.Admits.{unready}
 use Rattle.search_reduction.proofs.Newly.{settles}
 use Rattle.search_reduction.proofs.Ownership.{each-in, operationOf, one-owner}
 use Rattle.search_reduction.proofs.Links.{any-links}
 
-either : {C : Type 0} (a b : Bool) → (a || b) ≡ true → (a ≡ true → C) → (b ≡ true → C) → C
-either true b h f g = f refl
-either false b h f g = g h
+-- the roles of rule 1
+no-RV : (r : Role) → hasRoleLV r ≡ true → hasRoleRV r (λ _. true) ≡ false
+no-RV R h = refl
+no-RV LV h = refl
+no-RV F h = refl
+no-RV (RV q) h = absurd (false≢true h)
 
--- the roles of rule 1, by number
-LV-number : (i : Instruction) (r : Role) → hasRoleLV r ≡ true → numberOf i r ≡ i .first
-LV-number i R h = refl
-LV-number i LV h = refl
-LV-number i F h = refl
-LV-number i (RV q) h = absurd (false≢true h)
+own-role : (p : ℕ) (r : Role) → hasRoleRV r (λ q. eqb q p) ≡ true → r ≡ RV p
+own-role p R h = absurd (false≢true h)
+own-role p LV h = absurd (false≢true h)
+own-role p F h = absurd (false≢true h)
+own-role p (RV q) h = ap RV (eqb-true q p h)
 
-own-number : (i : Instruction) (r : Role) → hasRoleRV r (λ q. eqb q (i .processor)) ≡ true → numberOf i r ≡ suc (i .first) + i .processor
-own-number i R h = absurd (false≢true h)
-own-number i LV h = absurd (false≢true h)
-own-number i F h = absurd (false≢true h)
-own-number i (RV q) h = ap (λ (k : ℕ). suc (i .first) + k) (eqb-true q (i .processor) h)
-
-other-number : (i : Instruction) (r : Role) → hasRoleRV r (λ q. not (eqb q (i .processor))) ≡ true → numberOf i r ≡ suc (i .first) + i .processor → ⊥
-other-number i R h n = false≢true h
-other-number i LV h n = false≢true h
-other-number i F h n = false≢true h
-other-number i (RV q) h n = eqb-false q (i .processor) (not-true (eqb q (i .processor)) h) (omega arith)
+other-role : (p : ℕ) (r : Role) → hasRoleRV r (λ q. not (eqb q p)) ≡ true → (q : ℕ) × (r ≡ RV q) × (q ≡ p → ⊥)
+other-role p R h = absurd (false≢true h)
+other-role p LV h = absurd (false≢true h)
+other-role p F h = absurd (false≢true h)
+other-role p (RV q) h = (q, refl, eqb-false q p (not-true (eqb q p) h))
 
 module _ (e : Execution) (accepted : Accepted e) where
   abbrev Belongs : Operation → Type 0
@@ -73,15 +70,22 @@ module _ (e : Execution) (accepted : Accepted e) where
     not-1 h =
         let (ia, ra, na) = belongs ma in
         let (ib, rb, nb) = belongs mb in
-        either (isLV a && isOwnRV b) (isOwnRV a && isOtherRV b) (and-parts (sameInstruction a b) (isLV a && isOwnRV b || isOwnRV a && isOtherRV b) h .1)
+        or-cases (isLV a && isOwnRV b) (isOwnRV a && isOtherRV b) (and-parts (sameInstruction a b) (isLV a && isOwnRV b || isOwnRV a && isOtherRV b) h .1)
         (λ t.
         let (t0, t1) = and-parts (isLV a) (isOwnRV b) t in
+        let own = ap (numberOf (b .instruction)) (own-role (b .instruction .processor) (b .role) t1) in
         let f = ap (λ (i : Instruction). i .first) one in
-        omega (arith, LV-number (a .instruction) (a .role) t0, own-number (b .instruction) (b .role) t1))
+        let k = ap (λ (i : Instruction). remotesAt (i .kind)) one in
+        omega (arith, before-remotes (a .instruction .kind) (a .role) (no-RV (a .role) t0)))
         (λ t.
         let (t0, t1) = and-parts (isOwnRV a) (isOtherRV b) t in
-        other-number (b .instruction) (b .role) t1
-        (sym nb ∙ sym same ∙ na ∙ own-number (a .instruction) (a .role) t0 ∙ ap (λ (i : Instruction). suc (i .first) + i .processor) one))
+        let own = ap (numberOf (a .instruction)) (own-role (a .instruction .processor) (a .role) t0) in
+        let (q, r, differs) = other-role (b .instruction .processor) (b .role) t1 in
+        let other = ap (numberOf (b .instruction)) r in
+        let f = ap (λ (i : Instruction). i .first) one in
+        let k = ap (λ (i : Instruction). remotesAt (i .kind)) one in
+        let p = ap (λ (i : Instruction). i .processor) one in
+        differs (omega arith))
 
     not-8 : link8 e a b ≡ true → ⊥
     unfolding link8 paired
@@ -96,14 +100,14 @@ module _ (e : Execution) (accepted : Accepted e) where
     not-linked : linked e a b ≡ true → ⊥
     unfolding linked link2 link3 link4 link5 link6 link7 link13
     not-linked h =
-        either _ (link13 e a b) h
-        (λ h. either _ (link8 e a b) h
-        (λ h. either _ (link7 a b) h
-        (λ h. either _ (link6 a b) h
-        (λ h. either _ (link5 a b) h
-        (λ h. either _ (link4 a b) h
-        (λ h. either _ (link3 a b) h
-        (λ h. either (link1 a b) (link2 a b) h not-1 (λ h. not-earlier (and-left _ _ h)))
+        or-cases _ (link13 e a b) h
+        (λ h. or-cases _ (link8 e a b) h
+        (λ h. or-cases _ (link7 a b) h
+        (λ h. or-cases _ (link6 a b) h
+        (λ h. or-cases _ (link5 a b) h
+        (λ h. or-cases _ (link4 a b) h
+        (λ h. or-cases _ (link3 a b) h
+        (λ h. or-cases (link1 a b) (link2 a b) h not-1 (λ h. not-earlier (and-left _ _ h)))
         (λ h. not-earlier (and-left _ _ h)))
         (λ h. not-earlier (and-left _ _ h)))
         (λ h. not-earlier (and-left _ _ (and-left _ _ h))))

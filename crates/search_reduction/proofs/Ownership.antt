@@ -2,13 +2,15 @@
 use Prim.Native.Nat.{ℕ, suc, _+_, _≤_, _<_}
 use native.Mathlib.Omega.{arith}
 use mathlib.Core.Path.{_≡_, refl, sym, ap, _∙_, subst}
-use mathlib.Core.Bool.{true, false≢true}
-use mathlib.Core.List.{List, _∷_, List·Memᴰ, List·Memᴰ·head, List·Memᴰ·tail, Memᴰ·map}
-use lib.ListN.{length, getD}
+use mathlib.Core.Bool.{true}
+use mathlib.Core.List.{List, _∷_, List·Memᴰ, List·Memᴰ·head, List·Memᴰ·tail, Memᴰ·map, Memᴰ·of-map}
+use lib.ListN.{length}
 use Rattle.base.proofs.Lists.{of-keep, in-for, in-below, of-below, place-of}
-use Rattle.model.specs.Execution.{Kind, ld, ld-acq, st, st-rel, mf, isLoad, isStore, Instruction, Execution, Role, R, LV, F, RV, roles, numberOf, Operation, operationsOf, allOperations, loads, stores, everyProcessor}
+use Rattle.model.specs.Execution.{isLoad, isStore, Instruction, Execution, Role, R, LV, F, RV, roles, numberOf, Operation, operationsOf, allOperations, loads, stores, everyProcessor}
+use Rattle.model.specs.Rules.{remoteOf}
 use Rattle.model.specs.Accepted.{Consecutive, Each, Accepted}
-use Rattle.model.proofs.Numbers.{role-number}
+use Rattle.model.proofs.Numbers.{role-number, before-remotes}
+use Rattle.model.proofs.Roles.{LV-role, RV-role, R-role}
 
 module _ {A : Type 0} where
   -- what holds of each element holds of this one
@@ -16,39 +18,12 @@ module _ {A : Type 0} where
   each-in P h (List·Memᴰ·head e) = subst P (sym e) (h .0)
   each-in P h (List·Memᴰ·tail m) = each-in P (h .1) m
 
--- Roles
-
 module _ (p : ℕ) where
-  -- a store has LV and its RV, a load R
-  pub LV-role : (k : Kind) → isStore k ≡ true → List·Memᴰ LV (roles p k)
-  unfolding roles
-  LV-role ld h = absurd (false≢true h)
-  LV-role ld-acq h = absurd (false≢true h)
-  LV-role st h = List·Memᴰ·head refl
-  LV-role st-rel h = List·Memᴰ·head refl
-  LV-role mf h = absurd (false≢true h)
-
-  pub RV-role : (k : Kind) (q : ℕ) → q < p → isStore k ≡ true → List·Memᴰ (RV q) (roles p k)
-  unfolding roles
-  RV-role ld q l h = absurd (false≢true h)
-  RV-role ld-acq q l h = absurd (false≢true h)
-  RV-role st q l h = List·Memᴰ·tail (Memᴰ·map RV (in-below p q l))
-  RV-role st-rel q l h = List·Memᴰ·tail (Memᴰ·map RV (in-below p q l))
-  RV-role mf q l h = absurd (false≢true h)
-
-  pub R-role : (k : Kind) → isLoad k ≡ true → List·Memᴰ R (roles p k)
-  unfolding roles
-  R-role ld h = List·Memᴰ·head refl
-  R-role ld-acq h = List·Memᴰ·head refl
-  R-role st h = absurd (false≢true h)
-  R-role st-rel h = absurd (false≢true h)
-  R-role mf h = absurd (false≢true h)
-
   -- an operation's number lies among those of its instruction
   span : (i : Instruction) (r : Role) → List·Memᴰ r (roles p (i .kind)) → (i .first ≤ numberOf i r) × (numberOf i r < i .first + length (roles p (i .kind)))
   span i r m =
       let (k, l, e) = place-of F m in
-      let n = role-number p i (i .kind) k l in
+      let n = role-number p i k l in
       subst (λ (s : Role). (i .first ≤ numberOf i s) × (numberOf i s < i .first + length (roles p (i .kind)))) e (omega arith, omega arith)
 
   -- Instructions numbered one after the other
@@ -70,13 +45,6 @@ module _ (p : ℕ) where
   one-instruction at n (k ∷ is) l (List·Memᴰ·tail m) (List·Memᴰ·tail m′) a h1 h2 h3 h4 =
       one-instruction (at + length (roles p (k .kind))) (suc n) is (l .2) m m′ a h1 h2 h3 h4
 
-pub load-no-store : (k : Kind) → isLoad k ≡ true → isStore k ≡ true → ⊥
-load-no-store ld h s = false≢true s
-load-no-store ld-acq h s = false≢true s
-load-no-store st h s = false≢true h
-load-no-store st-rel h s = false≢true h
-load-no-store mf h s = false≢true h
-
 -- The operations of an accepted record
 
 abbrev pub operationOf : Instruction → Role → Operation
@@ -90,6 +58,11 @@ module _ (e : Execution) where
   pub in-processors : {q : ℕ} → List·Memᴰ q (everyProcessor e) → q < e .processors
   unfolding everyProcessor
   in-processors m = of-below (e .processors) m
+
+  -- a number among those of a store's RVs
+  pub RV-of : (w : Instruction) {a : ℕ} → List·Memᴰ a (remoteOf e w) → (q : ℕ) × (q < e .processors) × (numberOf w (RV q) ≡ a)
+  unfolding remoteOf
+  RV-of w m = let (q, mq, k) = Memᴰ·of-map (λ q. numberOf w (RV q)) (everyProcessor e) m in (q, in-processors mq, k)
 
   -- stores and loads are instructions
   pub is-store : {w : Instruction} → List·Memᴰ w (stores e) → List·Memᴰ w (e .instructions) × (isStore (w .kind) ≡ true)
@@ -149,4 +122,5 @@ module _ (e : Execution) where
         let (il, kl) = is-load ml in
         let (iw, kw) = is-store mw in
         let same = one-owner il iw (R-role (e .processors) (l .kind) kl) (RV-role (e .processors) (w .kind) q hq kw) h in
-        load-no-store (w .kind) (subst (λ (i : Instruction). isLoad (i .kind) ≡ true) same kl) kw
+        let one : numberOf w R ≡ numberOf w (RV q) = ap (λ (i : Instruction). numberOf i R) (sym same) ∙ h in
+        omega (arith, before-remotes (w .kind) R refl)

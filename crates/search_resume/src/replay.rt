@@ -5,11 +5,12 @@ ghost use mathlib.Core.List.{List, []};
 ghost use Prim.Native.Nat.{ℕ, _≤_};
 ghost use lib.ListN.{length, take};
 ghost use Rattle.base.specs.Lists.{distinct};
-ghost use Rattle.search_admit.specs.Rows.{firstWords};
+ghost use Rattle.search_admit.specs.Rows.{tableLength, firstWords};
 ghost use Rattle.search_enabled.specs.Affects.{Affecting};
 ghost use Rattle.search_walk.specs.Walks.{Levels, Kept};
 ghost use Rattle.search_resume.specs.Replays.{Replayed};
 use record_decoded::position::Position;
+use record_decoded::types::OperationNo;
 use record_decoded::types::wide;
 use search_admit::ROWS;
 use search_admit::TABLE;
@@ -27,7 +28,7 @@ use search_walk::enter;
 
 // The words of memory before any operation.
 pub fn first_words(rows: &[u64]) -> [u64; WORDS]
-    requires { ⌜ length (now rows) ≡ 2304 ⌝ }
+    requires { ⌜ length (now rows) ≡ tableLength ⌝ }
     ensures { λ r. ⌜ r ≡ firstWords (now (rows .entry)) ⌝ }
 {
     let mut words = [0u64; WORDS];
@@ -81,7 +82,7 @@ pub fn replay(
             replaced,
             rows,
             affected,
-            x,
+            OperationNo(x),
         ) {
             return false;
         }

@@ -1,7 +1,7 @@
 -- The seventeen words of a row are what they should be.
-use Prim.Native.Nat.{ℕ, suc, _+_, _*_, _-_, _/_, _%_, _≤_, _<_}
+use Prim.Native.Nat.{ℕ, _+_, _*_, _-_, _/_, _%_, _≤_, _<_}
 use native.Mathlib.Omega.{arith}
-use mathlib.Core.Path.{_≡_, refl, sym, ap, ap₂, _∙_, subst}
+use mathlib.Core.Path.{_≡_, sym, ap, ap₂, _∙_, subst}
 use mathlib.Core.Bool.{Bool, true, false, cond, _&&_, _||_}
 use mathlib.Core.List.{List, []}
 use lib.ListN.{length, getD}
@@ -10,7 +10,7 @@ use borrow.Author.Tests.{eq-eqb, ne-eqb, lt-leb}
 use Rattle.base.specs.Below.{anyBelow}
 use Rattle.base.specs.Bits.{bit}
 use Rattle.base.proofs.Bools.{clash}
-use Rattle.model.specs.Execution.{operations}
+use Rattle.model.specs.Execution.{Kind, kindOf, LV, RV, operations, numberFrom}
 use Rattle.model.specs.Rules.{linked}
 use Rattle.model.specs.Accepted.{Accepted, Sound}
 use Rattle.record_decoded.specs.declared.types.Execution.{Execution}
@@ -23,10 +23,10 @@ use Rattle.search_reduction.proofs.Ownership.{each-in}
 use Rattle.search_sets.specs.Set.{holds}
 use Rattle.search_sets.proofs.Laws.{zero-has}
 use Rattle.search_admit.specs.Rows.{writes, visibleAt, ownAt, covers, dataBit, awaitedBy, RowOf}
-use Rattle.relation_marks.specs.Marks.{hasMark, markAt}
+use Rattle.relation_marks.specs.Marks.{markAt}
 use Rattle.search_constraints.specs.Rows.{partnerOf, linkedOf, storesToLineBy}
 use Rattle.search_constraints.proofs.LinkedLaws.{preds-mean}
-use Rattle.search_constraints.proofs.PartnerLaws.{remotes-fit, partner-means}
+use Rattle.search_constraints.proofs.PartnerLaws.{partner-means}
 use Rattle.search_constraints.proofs.OwnedLaws.{each-linked}
 use Rattle.search_meaning.proofs.Owners.{numbered-in}
 use Rattle.search_meaning.proofs.Bytes.{fits-line}
@@ -88,12 +88,12 @@ module _ {x : Execution} {t : Operations} {marks : List (List ℕ)} (h : Compile
   abbrev linkedSome : ℕ → List ℕ → List ℕ → List ℕ → ℕ → ℕ → Bool
   linkedSome role ks fs ps w a = anyBelow (x .instructions .count) (λ v. linkedOf (x .processors) ks fs ps marks w role v a)
 
-  abbrev awaitedSome : ℕ → List ℕ → List ℕ → ℕ → ℕ → Bool
-  awaitedSome role fs ps w a = anyBelow (x .instructions .count) (λ v. awaitedBy (markAt marks v w) role (getD fs v 0) (getD ps v 0) a)
+  abbrev awaitedSome : ℕ → List ℕ → List ℕ → List ℕ → ℕ → ℕ → Bool
+  awaitedSome role ks fs ps w a = anyBelow (x .instructions .count) (λ v. awaitedBy (markAt marks v w) role (kindOf (getD ks v 0)) (getD fs v 0) (getD ps v 0) a)
 
   abbrev bypassSome : ℕ → List ℕ → List ℕ → List ℕ → List ℕ → ℕ → ℕ → Bool
   bypassSome role ks fs ps from w a =
-      anyBelow (x .instructions .count) (λ v. eqb role 0 && (storesToLineBy ks ps from w v && eqb a (1 + getD fs v 0 + getD ps v 0)))
+      anyBelow (x .instructions .count) (λ v. eqb role 0 && (storesToLineBy ks ps from w v && eqb a (numberFrom (getD fs v 0) (kindOf (getD ks v 0)) (RV (getD ps v 0)))))
 
   -- the same by the execution, of the operation's owner
   linked-lent : (w a : ℕ) → w ≡ owner → linkedSome role kinds firsts processors w a ≡ linkedSome role (x .instructions .kinds) (x .instructions .firsts) (x .instructions .processors) owner a
@@ -101,10 +101,10 @@ module _ {x : Execution} {t : Operations} {marks : List (List ℕ)} (h : Compile
       ap₂ (λ (ks fs : List ℕ). linkedSome role ks fs processors w a) (lent .kinds-are) (lent .firsts-are)
       ∙ ap₂ (λ (ps : List ℕ) (v : ℕ). linkedSome role (x .instructions .kinds) (x .instructions .firsts) ps v a) (lent .processors-are) iw
 
-  awaited-lent : (w a : ℕ) → w ≡ owner → awaitedSome role firsts processors w a ≡ awaitedSome role (x .instructions .firsts) (x .instructions .processors) owner a
+  awaited-lent : (w a : ℕ) → w ≡ owner → awaitedSome role kinds firsts processors w a ≡ awaitedSome role (x .instructions .kinds) (x .instructions .firsts) (x .instructions .processors) owner a
   awaited-lent w a iw =
-      ap (λ (fs : List ℕ). awaitedSome role fs processors w a) (lent .firsts-are)
-      ∙ ap₂ (λ (ps : List ℕ) (v : ℕ). awaitedSome role (x .instructions .firsts) ps v a) (lent .processors-are) iw
+      ap₂ (λ (ks fs : List ℕ). awaitedSome role ks fs processors w a) (lent .kinds-are) (lent .firsts-are)
+      ∙ ap₂ (λ (ps : List ℕ) (v : ℕ). awaitedSome role (x .instructions .kinds) (x .instructions .firsts) ps v a) (lent .processors-are) iw
 
   bypass-lent : (w a : ℕ) → w ≡ owner
       → bypassSome role kinds firsts processors addresses w a ≡ bypassSome role (x .instructions .kinds) (x .instructions .firsts) (x .instructions .processors) (x .instructions .addresses) owner a
@@ -113,19 +113,14 @@ module _ {x : Execution} {t : Operations} {marks : List (List ℕ)} (h : Compile
       ∙ ap₂ (λ (ps from : List ℕ). bypassSome role (x .instructions .kinds) (x .instructions .firsts) ps from w a) (lent .processors-are) (lent .addresses-are)
       ∙ ap (λ (v : ℕ). bypassSome role (x .instructions .kinds) (x .instructions .firsts) (x .instructions .processors) (x .instructions .addresses) v a) iw
 
-  -- the RVs of an st.rel to WB are operations
-  pub partners-fit : (w first : ℕ) → w ≡ owner → first ≡ getD firsts w 0 → hasMark (markAt marks w w) 512 ≡ true → (q : ℕ) → q < x .processors → suc first + q < 128
-  partners-fit w first iw isf mark q l =
-      omega (arith, remotes-fit h accepted o there (ap (λ (v : ℕ). hasMark (markAt marks v v) 512) (sym iw) ∙ mark) q l, isf ∙ ap₂ (λ (fs : List ℕ) (v : ℕ). getD fs v 0) (lent .firsts-are) iw)
-
   -- what makes a row of the operation, by its role
   abbrev RowIs : ℕ → Type 0
   RowIs r =
-      (row : ℕ → ℕ) (w first processor line : ℕ) → w ≡ owner → first ≡ getD firsts w 0 → processor ≡ getD processors w 0
+      (row : ℕ → ℕ) (w first processor line : ℕ) (kind : Kind) → w ≡ owner → first ≡ getD firsts w 0 → kind ≡ kindOf (getD kinds w 0) → processor ≡ getD processors w 0
       → line ≡ getD addresses w 0 / 8
       → ((a : ℕ) → a < 128 → holds (row 0) (row 1) a ≡ linkedSome r kinds firsts processors w a)
-      → ((a : ℕ) → holds (row 2) (row 3) a ≡ partnerOf (markAt marks w w) r first (x .processors) a)
-      → ((a : ℕ) → a < 128 → holds (row 4) (row 5) a ≡ awaitedSome r firsts processors w a)
+      → ((a : ℕ) → a < 128 → holds (row 2) (row 3) a ≡ partnerOf (markAt marks w w) r kind first (x .processors) a)
+      → ((a : ℕ) → a < 128 → holds (row 4) (row 5) a ≡ awaitedSome r kinds firsts processors w a)
       → ((a : ℕ) → a < 128 → holds (row 6) (row 7) a ≡ bypassSome r kinds firsts processors addresses w a)
       → (bits written : ℕ) → ((i : ℕ) → i < 64 → bit bits i ≡ covers x w i) → ((i : ℕ) → i < 64 → bit written i ≡ dataBit x w i)
       → (writing : Bool) → writing ≡ writes r
@@ -133,13 +128,15 @@ module _ {x : Execution} {t : Operations} {marks : List (List ℕ)} (h : Compile
       → (writes r ≡ true → row 10 ≡ cond (eqb r 1) (ownAt processor line) (visibleAt (r - 3) line))
       → row 11 ≡ cond (eqb r 0) bits 0 → row 12 ≡ cond (eqb r 0) written 0
       → row 13 ≡ 8 * processor + line → row 14 ≡ 64 + 8 * processor + line
-      → row 15 ≡ cond writing (1 + first + processor) o → row 16 ≡ cond writing first o
+      → (own-rv lv : ℕ) → own-rv ≡ numberFrom first kind (RV processor) → lv ≡ numberFrom first kind LV
+      → row 15 ≡ cond writing own-rv o → row 16 ≡ cond writing lv o
       → RowOf x t marks o row
 
   row-by-role : RowIs role
-  row-by-role row w first processor line iw isf ip il preds partners awaited bypasses bits written bits-are data-are writing wr r8 r9 r10 r11 r12 r13 r14 r15 r16 = record {
+  unfolding instructionAt
+  row-by-role row w first processor line kind iw isf isk ip il preds partners awaited bypasses bits written bits-are data-are writing wr r8 r9 r10 r11 r12 r13 r14 own-rv lv irv ilv r15 r16 = record {
     preds-are = λ a l. preds a l ∙ linked-lent w a iw ∙ each-linked h o a ∙ preds-mean h accepted o a there ∙ ap (λ (n : ℕ). ltb a n && linked (executionOf x) (operationAt (x .instructions) t a) (operationAt (x .instructions) t o)) (h .tabled .counts);
-    partners-are = λ a l. partners a ∙ ap₂ (λ (v f : ℕ). partnerOf (markAt marks v v) role f (x .processors) a) iw first-is ∙ partner-means h accepted o there a;
+    partners-are = λ a l. partners a l ∙ ap₂ (λ (v f : ℕ). partnerOf (markAt marks v v) role kind f (x .processors) a) iw first-is ∙ ap (λ (k : Kind). partnerOf (markAt marks owner owner) role k (getD (x .instructions .firsts) owner 0) (x .processors) a) kind-is ∙ partner-means h accepted o there a;
     awaited-are = λ a l. awaited a l ∙ awaited-lent w a iw;
     bypasses-are = λ a l. bypasses a l ∙ bypass-lent w a iw;
     writes-bits = λ i l. ap (λ (v : ℕ). bit v i) r8 ∙ wanted-bit writing (covers x w i) bits i (bits-are i l) ∙ ap₂ (λ (b : Bool) (v : ℕ). b && covers x v i) wr iw;
@@ -149,8 +146,8 @@ module _ {x : Execution} {t : Operations} {marks : List (List ℕ)} (h : Compile
     reads-data = λ i l. ap (λ (v : ℕ). bit v i) r12 ∙ wanted-bit (eqb role 0) (dataBit x w i) written i (data-are i l) ∙ ap (λ (v : ℕ). eqb role 0 && dataBit x v i) iw;
     reads-visible = λ u. r13 ∙ ap₂ visibleAt processor-is line-is;
     reads-own = λ u. r14 ∙ ap₂ ownAt processor-is line-is;
-    own-is = r15 ∙ ap₂ (λ (b : Bool) (n : ℕ). cond b n o) wr (ap₂ (λ (f p : ℕ). 1 + f + p) first-is processor-is);
-    local-is = r16 ∙ ap₂ (λ (b : Bool) (n : ℕ). cond b n o) wr first-is;
+    own-is = r15 ∙ ap₂ (λ (b : Bool) (n : ℕ). cond b n o) wr (irv ∙ ap₂ (λ (f p : ℕ). numberFrom f kind (RV p)) first-is processor-is ∙ ap (λ (k : Kind). numberFrom (getD (x .instructions .firsts) owner 0) k (RV (getD (x .instructions .processors) owner 0))) kind-is);
+    local-is = r16 ∙ ap₂ (λ (b : Bool) (n : ℕ). cond b n o) wr (ilv ∙ ap₂ (λ (f : ℕ) (k : Kind). numberFrom f k LV) first-is kind-is);
   }
     where
       processor-is : processor ≡ getD (x .instructions .processors) owner 0
@@ -158,6 +155,9 @@ module _ {x : Execution} {t : Operations} {marks : List (List ℕ)} (h : Compile
 
       line-is : line ≡ getD (x .instructions .addresses) owner 0 / 8
       line-is = il ∙ ap₂ (λ (from : List ℕ) (v : ℕ). getD from v 0 / 8) (lent .addresses-are) iw
+
+      kind-is : kind ≡ kindOf (getD (x .instructions .kinds) owner 0)
+      kind-is = isk ∙ ap₂ (λ (ks : List ℕ) (v : ℕ). kindOf (getD ks v 0)) (lent .kinds-are) iw
 
       first-is : first ≡ getD (x .instructions .firsts) owner 0
       first-is = isf ∙ ap₂ (λ (fs : List ℕ) (v : ℕ). getD fs v 0) (lent .firsts-are) iw

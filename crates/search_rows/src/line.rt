@@ -7,6 +7,7 @@ ghost use lib.Dec.{eqb, leb, ltb};
 ghost use Rattle.base.specs.Bits.{bit};
 ghost use Rattle.search_admit.specs.Rows.{Bytes};
 use record_decoded::types::DATA_STRIDE;
+use record_decoded::types::InstructionNo;
 use record_decoded::types::Lines;
 use record_decoded::types::MOST_INSTRUCTIONS;
 use record_decoded::types::wide;
@@ -48,14 +49,15 @@ fn bytes_from(bytes: &[u8], at: usize, place: usize, size: usize) -> u64
 // So many data bytes of instruction w, from a place on.
 pub fn data_from(
     bytes: &[u8; DATA_STRIDE * MOST_INSTRUCTIONS],
-    w: usize,
+    w: InstructionNo,
     place: usize,
     size: usize,
 ) -> u64
-    requires { ⌜ (w < 40) × (place + size ≤ 8) ⌝ }
-    ensures { λ r. ⌜ ((i : ℕ) → i < 64 → bit r i ≡ (leb place (i / 8) && ltb (i / 8) (place + size) && bit (getD (now (bytes .entry)) (8 * w + (i / 8 - place)) 0) (i % 8))) ⌝ }
+    requires { ⌜ (w .0 < 40) × (place + size ≤ 8) ⌝ }
+    ensures { λ r. ⌜ ((i : ℕ) → i < 64 → bit r i ≡ (leb place (i / 8) && ltb (i / 8) (place + size) && bit (getD (now (bytes .entry)) (8 * w .0 + (i / 8 - place)) 0) (i % 8))) ⌝ }
 {
-    bytes_from(bytes, DATA_STRIDE * w, place, size)
+    let at = DATA_STRIDE * w.0;
+    bytes_from(bytes, at, place, size)
 }
 
 // The initial bytes of a line.

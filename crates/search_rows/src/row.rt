@@ -15,14 +15,21 @@ use crate::line::data_from;
 use record_decoded::kind::ROLE_LV;
 use record_decoded::kind::ROLE_R;
 use record_decoded::kind::ROLE_RV;
+use record_decoded::kind::Role;
+use record_decoded::kind::kind_of;
+use record_decoded::kind::number_of;
 use record_decoded::position::Position;
 use record_decoded::types::DATA_STRIDE;
 use record_decoded::types::Execution;
+use record_decoded::types::InstructionNo;
 use record_decoded::types::MOST_INSTRUCTIONS;
+use record_decoded::types::MOST_LINES;
+use record_decoded::types::OperationNo;
 use record_decoded::types::wide;
 use record_decoded::types::wide16;
 use relation_links::operations::Operations;
 use search_admit::ROW;
+use search_admit::WORDS;
 use search_constraints::awaited_at;
 use search_constraints::bypasses_at;
 use search_constraints::partners_at;
@@ -47,73 +54,111 @@ fn wanted(is: bool, word: u64) -> u64
 }
 
 // The number of an operation's store's operation, or its own.
-fn number_of(writing: bool, number: usize, o: usize) -> u64
-    ensures { λ r. ⌜ r ≡ cond writing number o ⌝ }
+fn number_or_own(writing: bool, number: OperationNo, o: OperationNo) -> OperationNo
+    ensures { λ r. ⌜ r .0 ≡ cond writing (number .0) (o .0) ⌝ }
 {
-    if writing { number as u64 } else { o as u64 }
+    if writing { number } else { o }
+}
+
+// The word of memory for a line as a processor sees it.
+fn visible_at(processor: usize, line: usize) -> usize
+    requires { ⌜ (processor < 256) × (line < 256) ⌝ }
+    ensures { λ r. ⌜ (r ≡ visibleAt processor line) × (r < 65536) ⌝ }
+{
+    MOST_LINES as usize * processor + line
+}
+
+// The word of memory for what the processor's own stores wrote to a line.
+fn own_at(processor: usize, line: usize) -> usize
+    requires { ⌜ (processor < 256) × (line < 256) ⌝ }
+    ensures { λ r. ⌜ (r ≡ ownAt processor line) × (r < 65536) ⌝ }
+{
+    WORDS / 2 + MOST_LINES as usize * processor + line
 }
 
 // The word that an LV or an RV writes. Another operation writes no bits, and to the last word: where it wrote to one that loads read, the search would ask
 // these again behind it.
-fn word_of(role: u8, processor: usize, line: usize) -> u64
+fn word_of(role: u8, processor: usize, line: usize) -> usize
     requires { ⌜ (processor < 256) × (line < 256) ⌝ }
     ensures { λ r. ⌜ (writes role ≡ true → r ≡ cond (eqb role 1) (ownAt processor line) (visibleAt (role - 3) line)) ⌝ }
 {
     if role == ROLE_LV {
-        return (64 + 8 * processor + line) as u64;
+        return own_at(processor, line);
     }
     if role < ROLE_RV {
-        return 127;
+        return WORDS - 1;
     }
-    (8 * wide(role - ROLE_RV) + line) as u64
+    visible_at(wide(role - ROLE_RV), line)
 }
 
 // The row of operation o, by the arrays of the operations and the instructions, that are lent for all rows.
 pub fn row_of<'a>(
     x: Execution,
     t: Operations,
-    marks: &'a [[u16; 40]; 40],
+    marks: &'a [[u16; MOST_INSTRUCTIONS]; MOST_INSTRUCTIONS],
     owners: &'a [u8; Position::LIMIT],
     roles: &'a [u8; Position::LIMIT],
-    kinds: &'a [u8; 40],
-    firsts: &'a [u16; 40],
-    processors: &'a [u8; 40],
-    addresses: &'a [u8; 40],
-    sizes: &'a [u8; 40],
+    kinds: &'a [u8; MOST_INSTRUCTIONS],
+    firsts: &'a [u16; MOST_INSTRUCTIONS],
+    processors: &'a [u8; MOST_INSTRUCTIONS],
+    addresses: &'a [u8; MOST_INSTRUCTIONS],
+    sizes: &'a [u8; MOST_INSTRUCTIONS],
     bytes: &'a [u8; DATA_STRIDE * MOST_INSTRUCTIONS],
-    o: usize,
+    o: OperationNo,
 ) -> [u64; ROW]
-    requires { ⌜ Compiled x t (now marks) × Accepted (executionOf x) × (o < operations (executionOf x)) × Lent x t (now owners) (now roles) (now kinds) (now firsts) (now processors) (now addresses) (now sizes) (now bytes) ⌝ }
-    ensures { λ r. ⌜ RowOf x t (now (marks .entry)) o (λ (f : ℕ). getD r f 0) ⌝ }
+    requires { ⌜ Compiled x t (now marks) × Accepted (executionOf x) × (o .0 < operations (executionOf x)) × Lent x t (now owners) (now roles) (now kinds) (now firsts) (now processors) (now addresses) (now sizes) (now bytes) ⌝ }
+    ensures { λ r. ⌜ RowOf x t (now (marks .entry)) (o .0) (λ (f : ℕ). getD r f 0) ⌝ }
 {
     let every = x.processors;
     let n = x.instructions.count;
-    let w = wide(owners[o]);
-    let role = roles[o];
+    let number = o.0;
+    let w = wide(owners[number]);
+    let role = roles[number];
+    let kind = kind_of(kinds[w]);
     let first = wide16(firsts[w]);
     let processor = wide(processors[w]);
     let address = wide(addresses[w]);
     let size = wide(sizes[w]);
     let line = address / 8;
     let place = address % 8;
-    let preds = preds_at(n, every, kinds, firsts, processors, marks, w, role);
-    let partners = partners_at(marks[w][w], role, first, every);
-    let awaited = awaited_at(n, firsts, processors, marks, w, role);
-    let bypasses = bypasses_at(n, kinds, firsts, processors, addresses, w, role);
+    let preds = preds_at(
+        n,
+        every,
+        kinds,
+        firsts,
+        processors,
+        marks,
+        InstructionNo(w),
+        role,
+    );
+    let partners = partners_at(marks[w][w], role, kind, OperationNo(first), every);
+    let awaited = awaited_at(n, kinds, firsts, processors, marks, InstructionNo(w), role);
+    let bypasses = bypasses_at(
+        n,
+        kinds,
+        firsts,
+        processors,
+        addresses,
+        InstructionNo(w),
+        role,
+    );
     let bits = bits_from(place, size);
-    let data = data_from(bytes, w, place, size);
+    let data = data_from(bytes, InstructionNo(w), place, size);
     let writing = is_writing(role);
     let reading = role == ROLE_R;
     let written_bits = wanted(writing, bits);
     let written_data = wanted(writing, data);
-    let written_word = word_of(role, processor, line);
+    let written_word = word_of(role, processor, line) as u64;
     let read_bits = wanted(reading, bits);
     let read_data = wanted(reading, data);
-    let visible_word = (8 * processor + line) as u64;
-    let own_word = (64 + 8 * processor + line) as u64;
-    let own_number = 1 + first + processor;
-    let own = number_of(writing, own_number, o);
-    let local = number_of(writing, first, o);
+    let visible_word = visible_at(processor, line) as u64;
+    let own_word = own_at(processor, line) as u64;
+    let own_rv = number_of(OperationNo(first), kind, Role::RV(processor));
+    let lv = number_of(OperationNo(first), kind, Role::LV);
+    let own = number_or_own(writing, own_rv, o);
+    let local = number_or_own(writing, lv, o);
+    let own_number = own.0 as u64;
+    let local_number = local.0 as u64;
     [
         preds.lo,
         preds.hi,
@@ -130,7 +175,7 @@ pub fn row_of<'a>(
         read_data,
         visible_word,
         own_word,
-        own,
-        local,
+        own_number,
+        local_number,
     ]
 }

@@ -5,12 +5,14 @@ ghost use lib.ListN.{length};
 ghost use Rattle.model.specs.Accepted.{Accepted};
 ghost use Rattle.record_decoded.specs.Decoded.{executionOf};
 ghost use Rattle.relation_links.specs.Compiled.{Compiled};
-ghost use Rattle.search_admit.specs.Rows.{firstWords, Initial, Bytes, RowsMean};
+ghost use Rattle.search_admit.specs.Rows.{rowLength, tableLength, firstWords, Initial, Bytes, RowsMean};
 ghost use Rattle.search_rows.specs.Puts.{Put};
 use crate::line::initial_word;
 use crate::line::known_bytes;
 use crate::row::row_of;
 use record_decoded::types::Execution;
+use record_decoded::types::MOST_INSTRUCTIONS;
+use record_decoded::types::OperationNo;
 use relation_links::operations::Operations;
 use search_admit::ROW;
 use search_admit::ROWS;
@@ -19,8 +21,8 @@ use search_admit::WORDS;
 
 // Puts the first words in: the initial bytes of each line, for each processor and each kind of word.
 fn put_first(rows: &mut [u64; TABLE], x: Execution)
-    requires { ⌜ length (now rows) ≡ 2304 ⌝ }
-    ensures { λ _. ⌜ (length (now (rows .exit)) ≡ 2304) × Initial x (firstWords (now (rows .exit))) ⌝ }
+    requires { ⌜ length (now rows) ≡ tableLength ⌝ }
+    ensures { λ _. ⌜ (length (now (rows .exit)) ≡ tableLength) × Initial x (firstWords (now (rows .exit))) ⌝ }
 {
     for c in 0..WORDS {
         rows[ROWS + c] = initial_word(x.lines, c % 8);
@@ -28,11 +30,11 @@ fn put_first(rows: &mut [u64; TABLE], x: Execution)
 }
 
 // Puts the row of an operation in.
-fn put_row(rows: &mut [u64], o: usize, row: &[u64])
-    requires { ⌜ (o < 128) × (length (now rows) ≡ 2304) × (length (now row) ≡ 17) ⌝ }
-    ensures { λ _. ⌜ Put (now (rows .entry)) (now (row .entry)) (17 * o) 17 (now (rows .exit)) ⌝ }
+fn put_row(rows: &mut [u64], o: OperationNo, row: &[u64])
+    requires { ⌜ (o .0 < 128) × (length (now rows) ≡ tableLength) × (length (now row) ≡ rowLength) ⌝ }
+    ensures { λ _. ⌜ Put (now (rows .entry)) (now (row .entry)) (rowLength * o .0) rowLength (now (rows .exit)) ⌝ }
 {
-    let at = ROW * o;
+    let at = ROW * o.0;
     for f in 0..ROW {
         rows[at + f] = row[f];
     }
@@ -51,7 +53,11 @@ fn known_data(x: Execution)
 }
 
 // What is compiled of an execution.
-pub fn rows_of(x: Execution, t: Operations, marks: &[[u16; 40]; 40]) -> [u64; TABLE]
+pub fn rows_of(
+    x: Execution,
+    t: Operations,
+    marks: &[[u16; MOST_INSTRUCTIONS]; MOST_INSTRUCTIONS],
+) -> [u64; TABLE]
     requires { ⌜ Compiled x t (now marks) × Accepted (executionOf x) ⌝ }
     ensures { λ r. ⌜ RowsMean x t (now (marks .entry)) r ⌝ }
 {
@@ -80,9 +86,9 @@ pub fn rows_of(x: Execution, t: Operations, marks: &[[u16; 40]; 40]) -> [u64; TA
             &addresses,
             &sizes,
             &bytes,
-            o,
+            OperationNo(o),
         );
-        put_row(&mut rows, o, &row);
+        put_row(&mut rows, OperationNo(o), &row);
     }
     known_data(x);
     rows

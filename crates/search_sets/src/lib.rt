@@ -7,6 +7,9 @@ ghost use lib.Dec.{eqb};
 ghost use Rattle.base.specs.Below.{allBelow};
 ghost use Rattle.search_sets.specs.Set.{holds, LowestMember};
 
+// The members of a set are below this number: there is room for the operations of a record.
+pub const BOUND: usize = 128;
+
 pub struct Set {
     pub lo: u64,
     pub hi: u64,
@@ -47,7 +50,7 @@ pub fn insert_if(s: Set, i: usize, wanted: bool) -> Set
     if !wanted {
         return s;
     }
-    if i >= 128 {
+    if i >= BOUND {
         return s;
     }
     insert(s, i)
@@ -88,7 +91,7 @@ pub fn subset(a: Set, b: Set) -> bool
     a.lo & b.lo == a.lo && a.hi & b.hi == a.hi
 }
 
-// The lowest member from `from` on, or 128.
+// The lowest member from `from` on, or BOUND.
 pub fn first(s: Set, from: usize) -> usize
     requires { ⌜ from ≤ 128 ⌝ }
     ensures { λ r. ⌜ LowestMember (holds (s .lo) (s .hi)) from 128 r ⌝ }
@@ -102,14 +105,14 @@ pub fn first(s: Set, from: usize) -> usize
         let y = u64::trailing_zeros(s.hi);
         return 64 + y as usize;
     }
-    if from < 128 {
+    if from < BOUND {
         let v = s.hi >> (from - 64);
         if v != 0 {
             let x = u64::trailing_zeros(v);
             return from + x as usize;
         }
     }
-    128
+    BOUND
 }
 
 // The k-th set of a table, two words a set.

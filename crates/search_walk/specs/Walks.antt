@@ -16,6 +16,10 @@ use Rattle.search_enabled.specs.Affects.{enabledAfter}
 use Rattle.search_walk.specs.declared.WalkAnswer.{WalkAnswer}
 use Rattle.search_walk.specs.declared.WalkAnswer.the-variants.{Next, End}
 
+-- the words of the sets of all levels: three sets of two words for each number of entries from 0 to 128
+abbrev pub levelsLength : ℕ
+levelsLength = 6 * 129
+
 -- Three sets a level: the operations that stand, those that are enabled behind them, and those of these that may follow as far as rule 12 goes.
 module _ (levels : List ℕ) (j : ℕ) where
   abbrev pub stands : ℕ → Bool

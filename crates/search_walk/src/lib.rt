@@ -4,8 +4,9 @@ ghost use Prim.Native.Nat.{_<_, _≤_};
 ghost use lib.ListN.{length, getD, set, take};
 ghost use Rattle.search_admit.specs.Rows.{writtenWord, wordsWith};
 ghost use Rattle.search_enabled.specs.Affects.{Affecting};
-ghost use Rattle.search_walk.specs.Walks.{Level, Entered, Kept, Walked};
+ghost use Rattle.search_walk.specs.Walks.{levelsLength, Level, Entered, Kept, Walked};
 use record_decoded::position::Position;
+use record_decoded::types::OperationNo;
 use record_decoded::types::wide;
 use relation_places::ABSENT;
 use search_admit::TABLE;
@@ -44,12 +45,12 @@ fn add_level(
     words: &[u64; WORDS],
     rows: &[u64; TABLE],
     affected: &[u64; AFFECTED],
-    x: usize,
+    x: OperationNo,
 )
-    requires { ⌜ (k < 128) × (x < 128) × (length (now levels) ≡ 774) ⌝ }
-    ensures { λ _. ⌜ Level (now (rows .entry)) (now (affected .entry)) (now (words .entry)) x k (now (levels .entry)) (now (levels .exit)) ⌝ }
+    requires { ⌜ (k < 128) × (x .0 < 128) × (length (now levels) ≡ levelsLength) ⌝ }
+    ensures { λ _. ⌜ Level (now (rows .entry)) (now (affected .entry)) (now (words .entry)) (x .0) k (now (levels .entry)) (now (levels .exit)) ⌝ }
 {
-    let stand = insert(at(levels, SETS * k), x);
+    let stand = insert(at(levels, SETS * k), x.0);
     let before = at(levels, SETS * k + ENABLED);
     let enabled = enabled_after(rows, affected, words, before, stand, x);
     let open = open_after(rows, enabled, stand, x);
@@ -69,13 +70,14 @@ fn add_entry(
     replaced: &mut [u64],
     rows: &[u64; TABLE],
     affected: &[u64; AFFECTED],
-    x: usize,
+    x: OperationNo,
 )
-    requires { ⌜ (k < 128) × (x < 128) × (length (now position) ≡ 128) × (length (now places) ≡ 128) × (length (now levels) ≡ 774) × (length (now words) ≡ 128) × (length (now replaced) ≡ 128) ⌝ }
-    ensures { λ r. ⌜ (now (position .exit) ≡ set (now (position .entry)) k x) × (now (places .exit) ≡ set (now (places .entry)) x k) × (now (words .exit) ≡ wordsWith (now (rows .entry)) (now (words .entry)) x) × (now (replaced .exit) ≡ set (now (replaced .entry)) k (getD (now (words .entry)) (writtenWord (now (rows .entry)) x) 0)) × Level (now (rows .entry)) (now (affected .entry)) (now (words .exit)) x k (now (levels .entry)) (now (levels .exit)) ⌝ }
+    requires { ⌜ (k < 128) × (x .0 < 128) × (length (now position) ≡ 128) × (length (now places) ≡ 128) × (length (now levels) ≡ levelsLength) × (length (now words) ≡ 128) × (length (now replaced) ≡ 128) ⌝ }
+    ensures { λ r. ⌜ (now (position .exit) ≡ set (now (position .entry)) k (x .0)) × (now (places .exit) ≡ set (now (places .entry)) (x .0) k) × (now (words .exit) ≡ wordsWith (now (rows .entry)) (now (words .entry)) (x .0)) × (now (replaced .exit) ≡ set (now (replaced .entry)) k (getD (now (words .entry)) (writtenWord (now (rows .entry)) (x .0)) 0)) × Level (now (rows .entry)) (now (affected .entry)) (now (words .exit)) (x .0) k (now (levels .entry)) (now (levels .exit)) ⌝ }
 {
-    position[k] = x as u8;
-    places[x] = k as u8;
+    let o = x.0;
+    position[k] = o as u8;
+    places[o] = k as u8;
     replaced[k] = write(rows, words, x);
     add_level(levels, k, words, rows, affected, x);
 }
@@ -90,10 +92,10 @@ pub fn enter(
     replaced: &mut [u64; Position::LIMIT],
     rows: &[u64; TABLE],
     affected: &[u64; AFFECTED],
-    x: usize,
+    x: OperationNo,
 ) -> bool
-    requires { ⌜ (k < 128) × (x < 128) × (length (now position) ≡ 128) × (length (now places) ≡ 128) × (length (now words) ≡ 128) ⌝ }
-    ensures { λ r. ⌜ Entered (now (rows .entry)) (now (affected .entry)) x k r (now (position .entry)) (now (places .entry)) (now (levels .entry)) (now (words .entry)) (now (replaced .entry)) (now (position .exit)) (now (places .exit)) (now (levels .exit)) (now (words .exit)) (now (replaced .exit)) ⌝ }
+    requires { ⌜ (k < 128) × (x .0 < 128) × (length (now position) ≡ 128) × (length (now places) ≡ 128) × (length (now words) ≡ 128) ⌝ }
+    ensures { λ r. ⌜ Entered (now (rows .entry)) (now (affected .entry)) (x .0) k r (now (position .entry)) (now (places .entry)) (now (levels .entry)) (now (words .entry)) (now (replaced .entry)) (now (position .exit)) (now (places .exit)) (now (levels .exit)) (now (words .exit)) (now (replaced .exit)) ⌝ }
 {
     if is_refused(rows, places, at(levels, SETS * k), x) {
         return false;
@@ -120,14 +122,14 @@ fn remove_entry(
     words: &mut [u64],
     replaced: &[u64],
     rows: &[u64; TABLE],
-) -> usize
+) -> OperationNo
     requires { ⌜ (k < length (now position)) × (k < length (now replaced)) × (getD (now position) k 0 < 128) × (length (now places) ≡ 128) × (length (now words) ≡ 128) ⌝ }
-    ensures { λ r. ⌜ (r ≡ getD (now (position .entry)) k 0) × (now (places .exit) ≡ set (now (places .entry)) r 255) × (now (words .exit) ≡ set (now (words .entry)) (writtenWord (now (rows .entry)) r) (getD (now (replaced .entry)) k 0)) ⌝ }
+    ensures { λ r. ⌜ (r .0 ≡ getD (now (position .entry)) k 0) × (now (places .exit) ≡ set (now (places .entry)) (r .0) 255) × (now (words .exit) ≡ set (now (words .entry)) (writtenWord (now (rows .entry)) (r .0)) (getD (now (replaced .entry)) k 0)) ⌝ }
 {
     let last = wide(position[k]);
     places[last] = ABSENT;
-    unwrite(rows, words, last, replaced[k]);
-    last
+    unwrite(rows, words, OperationNo(last), replaced[k]);
+    OperationNo(last)
 }
 
 // From the first `size` entries of the position. `levels` has the sets of its first j entries as level j, `places` the places of all entries, `words`
@@ -163,7 +165,7 @@ pub fn walk(
                 replaced,
                 rows,
                 affected,
-                x,
+                OperationNo(x),
             ) {
                 return WalkAnswer::Next(k + 1);
             }
@@ -173,7 +175,8 @@ pub fn walk(
                 return WalkAnswer::End;
             }
             k -= 1;
-            c = remove_entry(position, k, places, words, replaced, rows) + 1;
+            let removed = remove_entry(position, k, places, words, replaced, rows);
+            c = removed.0 + 1;
             candidates = at(levels, SETS * k + OPEN);
         }
         turn += 1;

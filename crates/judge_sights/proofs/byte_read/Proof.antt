@@ -18,7 +18,7 @@ returns : tie.Need-returns
 unfolding readBy
 returns c =
     let a = c .before .before .before .before .args in
-    c .latest-byte .ensures ∙ ap₂ (latestBy (a .x .instructions) (a .places .now) (a .load) (a .address))
+    c .latest-byte .ensures ∙ ap₂ (latestBy (a .x .instructions) (a .places .now) (a .load .0) (a .address))
     (c .before .before .is-local .ensures) (c .before .initial-byte .ensures)
 
 pub byte-read-spec : {M : Type 1} → statement M

@@ -14,12 +14,12 @@ wide-requires c κs = search needs
 returns : tie.Need-returns
 returns c =
     let a = c .before .before .before .args in
-    byte-past (a .is) (a .i) (a .k) (omega arith)
+    byte-past (a .is) (a .i .0) (a .k) (omega arith)
 
 returns-2 : tie.Need-returns-2
 returns-2 c =
     let a = c .before .before .before .before .args in
-    byte-ninth (a .is) (a .i) (a .k) (c .if2 .taken)
+    byte-ninth (a .is) (a .i .0) (a .k) (c .if2 .taken)
 
 mul-result : tie.Need-mul-result
 mul-result c = search needs
@@ -33,7 +33,7 @@ array-read-result c = search needs
 returns-3 : tie.Need-returns-3
 returns-3 c =
     let a = c .before .before .before .before .before .args in
-    byte-there (a .is) (a .i) (a .k) (omega arith) (omega arith)
+    byte-there (a .is) (a .i .0) (a .k) (omega arith) (omega arith)
 
 pub data-byte-spec : {M : Type 1} → statement M
 data-byte-spec =

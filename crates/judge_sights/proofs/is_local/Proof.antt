@@ -9,7 +9,7 @@ use Rattle.judge_sights.proofs.is_local.Statement.{statement}
 use Rattle.judge_sights.proofs.is_local.Tie as tie
 
 abbrev Inv-loop : tie.InvT-loop
-Inv-loop is places load address w₀ w-end w = (w-end ≡ is .count) × NoneYet (is .count) (makesLocal is places load address) w
+Inv-loop is places load address w₀ w-end w = (w-end ≡ is .count) × NoneYet (is .count) (makesLocal is places (load .0) address) w
 
 abbrev μ-loop : tie.MeasureT-loop
 μ-loop is places load address w₀ w-end w = w-end - w

@@ -10,7 +10,7 @@ use Rattle.judge_sights.proofs.latest_byte.Statement.{statement}
 use Rattle.judge_sights.proofs.latest_byte.Tie as tie
 
 abbrev Inv-loop : tie.InvT-loop
-Inv-loop is places load address local initial latest₀ w₀ w-end latest w = (w-end ≡ is .count) × Folded (is .count) (latestWith is places load address local) (record { next = 0; value = initial }) w latest
+Inv-loop is places load address local initial latest₀ w₀ w-end latest w = (w-end ≡ is .count) × Folded (is .count) (latestWith is places (load .0) address local) (record { next = 0; value = initial }) w latest
 
 abbrev μ-loop : tie.MeasureT-loop
 μ-loop is places load address local initial latest₀ w₀ w-end latest w = w-end - w

@@ -13,7 +13,7 @@ may-give-requires c κs = search needs
 returns : tie.Need-returns
 returns c =
     let a = c .before .before .args in
-    latest-none (a .is) (a .places .now) (a .load) (a .address) (a .local) (a .w) (a .latest)
+    latest-none (a .is) (a .places .now) (a .load .0) (a .address) (a .local) (a .w .0) (a .latest)
     (sym (c .before .may-give .ensures) ∙ not-true _ (c .if1 .taken))
 
 visible-by-requires : tie.Need-visible-by-requires
@@ -25,8 +25,8 @@ place-of-requires c κs = search needs
 wide-requires : tie.Need-wide-requires
 wide-requires c κs = search needs
 
-first-of-requires : tie.Need-first-of-requires
-first-of-requires c κs = search needs
+read-no-requires : tie.Need-read-no-requires
+read-no-requires c κs = search needs
 
 place-of-requires-2 : tie.Need-place-of-requires-2
 place-of-requires-2 c κs = search needs
@@ -37,19 +37,19 @@ wide-requires-2 c κs = search needs
 returns-2 : tie.Need-returns-2
 returns-2 c =
     let a = c .before .before .before .before .before .before .before .before .before .args in
-    latest-past (a .is) (a .places .now) (a .load) (a .address) (a .local) (a .w) (a .latest)
+    latest-past (a .is) (a .places .now) (a .load .0) (a .address) (a .local) (a .w .0) (a .latest)
     (c .before .before .before .before .wide .result) (c .before .wide2 .result)
     (c .before .before .before .before .wide .ensures .0 ∙ c .before .before .before .before .before .place-of .ensures ∙ ap (placed (a .places .now)) (c .before .before .before .before .before .before .visible-by .ensures))
-    (c .before .wide2 .ensures .0 ∙ c .before .before .place-of2 .ensures ∙ ap (placed (a .places .now)) (c .before .before .before .first-of .ensures .0))
+    (c .before .wide2 .ensures .0 ∙ c .before .before .place-of2 .ensures ∙ ap (placed (a .places .now)) (c .before .before .before .read-no .ensures))
     (c .if2 .taken)
 
 returns-3 : tie.Need-returns-3
 returns-3 c =
     let a = c .before .before .before .before .before .before .before .before .before .before .before .args in
-    latest-before (a .is) (a .places .now) (a .load) (a .address) (a .local) (a .w) (a .latest)
+    latest-before (a .is) (a .places .now) (a .load .0) (a .address) (a .local) (a .w .0) (a .latest)
     (c .before .before .before .before .before .before .wide .result) (c .before .before .before .wide2 .result)
     (c .before .before .before .before .before .before .wide .ensures .0 ∙ c .before .before .before .before .before .before .before .place-of .ensures ∙ ap (placed (a .places .now)) (c .before .before .before .before .before .before .before .before .visible-by .ensures))
-    (c .before .before .before .wide2 .ensures .0 ∙ c .before .before .before .before .place-of2 .ensures ∙ ap (placed (a .places .now)) (c .before .before .before .before .before .first-of .ensures .0))
+    (c .before .before .before .wide2 .ensures .0 ∙ c .before .before .before .before .place-of2 .ensures ∙ ap (placed (a .places .now)) (c .before .before .before .before .before .read-no .ensures))
     (c .if3 .taken)
 
 address-of-requires : tie.Need-address-of-requires
@@ -58,7 +58,7 @@ address-of-requires c κs = search needs
 sub-k : tie.Need-sub-k
 sub-k c =
     let a = c .before .before .before .before .before .before .before .before .before .before .before .before .args in
-    gives-from (a .is) (a .load) (a .address) (a .local) (a .w) (c .address-of .result) (c .address-of .ensures .0)
+    gives-from (a .is) (a .load .0) (a .address) (a .local) (a .w .0) (c .address-of .result) (c .address-of .ensures .0)
     (sym (c .before .before .before .before .before .before .before .before .before .before .before .may-give .ensures) ∙ not-false _ (c .before .before .before .before .before .before .before .before .before .before .if1 .left))
 
 data-byte-requires : tie.Need-data-byte-requires
@@ -70,11 +70,11 @@ add-next c = search needs
 returns-4 : tie.Need-returns-4
 returns-4 c =
     let a = c .before .before .before .before .before .before .before .before .before .before .before .before .before .args in
-    latest-given (a .is) (a .places .now) (a .load) (a .address) (a .local) (a .w) (a .latest)
+    latest-given (a .is) (a .places .now) (a .load .0) (a .address) (a .local) (a .w .0) (a .latest)
     (c .before .before .before .before .before .before .before .before .wide .result)
     (c .before .before .before .before .before .wide2 .result)
     (c .before .before .before .before .before .before .before .before .wide .ensures .0 ∙ c .before .before .before .before .before .before .before .before .before .place-of .ensures ∙ ap (placed (a .places .now)) (c .before .before .before .before .before .before .before .before .before .before .visible-by .ensures))
-    (c .before .before .before .before .before .wide2 .ensures .0 ∙ c .before .before .before .before .before .before .place-of2 .ensures ∙ ap (placed (a .places .now)) (c .before .before .before .before .before .before .before .first-of .ensures .0))
+    (c .before .before .before .before .before .wide2 .ensures .0 ∙ c .before .before .before .before .before .before .place-of2 .ensures ∙ ap (placed (a .places .now)) (c .before .before .before .before .before .before .before .read-no .ensures))
     (sym (c .before .before .before .before .before .before .before .before .before .before .before .before .may-give .ensures) ∙ not-false _ (c .before .before .before .before .before .before .before .before .before .before .before .if1 .left))
     (c .before .before .before .before .if2 .left) (c .before .before .if3 .left) (c .data-byte .result)
     (c .before .address-of .result) (c .before .address-of .ensures .0) (c .data-byte .ensures)
@@ -88,7 +88,7 @@ latest-with-spec =
     visible-by-requires
     place-of-requires
     wide-requires
-    first-of-requires
+    read-no-requires
     place-of-requires-2
     wide-requires-2
     returns-2

@@ -12,7 +12,7 @@ writes-to-requires c κs = search needs
 returns : tie.Need-returns
 returns c =
     let a = c .before .before .args in
-    local-none (a .is) (a .places .now) (a .load) (a .address) (a .w) (sym (c .before .writes-to .ensures) ∙ not-true _ (c .if1 .taken))
+    local-none (a .is) (a .places .now) (a .load .0) (a .address) (a .w .0) (sym (c .before .writes-to .ensures) ∙ not-true _ (c .if1 .taken))
 
 own-of-requires : tie.Need-own-of-requires
 own-of-requires c κs = search needs
@@ -20,13 +20,13 @@ own-of-requires c κs = search needs
 returns-2 : tie.Need-returns-2
 returns-2 c =
     let a = c .before .before .before .before .args in
-    local-other (a .is) (a .places .now) (a .load) (a .address) (a .w) (sym (c .before .own-of .ensures) ∙ not-true _ (c .if2 .taken))
+    local-other (a .is) (a .places .now) (a .load .0) (a .address) (a .w .0) (sym (c .before .own-of .ensures) ∙ not-true _ (c .if2 .taken))
 
-first-of-requires : tie.Need-first-of-requires
-first-of-requires c κs = search needs
+read-no-requires : tie.Need-read-no-requires
+read-no-requires c κs = search needs
 
-first-of-requires-2 : tie.Need-first-of-requires-2
-first-of-requires-2 c κs = search needs
+local-no-requires : tie.Need-local-no-requires
+local-no-requires c κs = search needs
 
 before-requires : tie.Need-before-requires
 before-requires c κs = search needs
@@ -34,12 +34,12 @@ before-requires c κs = search needs
 returns-3 : tie.Need-returns-3
 returns-3 c =
     let a = c .before .before .before .before .before .before .before .before .args in
-    local-late (a .is) (a .places .now) (a .load) (a .address) (a .w) (c .before .before .first-of2 .result)
-    (c .before .before .before .first-of .result) (c .before .before .first-of2 .ensures .0)
-    (c .before .before .before .first-of .ensures .0) (sym (c .before .before2 .ensures) ∙ not-true _ (c .if3 .taken))
+    local-late (a .is) (a .places .now) (a .load .0) (a .address) (a .w .0) (c .before .before .local-no .result .0)
+    (c .before .before .before .read-no .result .0) (c .before .before .local-no .ensures)
+    (c .before .before .before .read-no .ensures) (sym (c .before .before2 .ensures) ∙ not-true _ (c .if3 .taken))
 
-remote-to-requires : tie.Need-remote-to-requires
-remote-to-requires c κs = search needs
+remote-no-requires : tie.Need-remote-no-requires
+remote-no-requires c κs = search needs
 
 before-requires-2 : tie.Need-before-requires-2
 before-requires-2 c κs = search needs
@@ -47,13 +47,13 @@ before-requires-2 c κs = search needs
 returns-4 : tie.Need-returns-4
 returns-4 c =
     let a = c .before .before .before .before .before .before .before .before .before .before .args in
-    c .before3 .ensures ∙ local-is (a .is) (a .places .now) (a .load) (a .address) (a .w)
-    (c .before .before .before .before .first-of2 .result) (c .before .before .before .before .before .first-of .result)
-    (c .before .before .before .before .first-of2 .ensures .0) (c .before .before .before .before .before .first-of .ensures .0)
+    c .before3 .ensures ∙ local-is (a .is) (a .places .now) (a .load .0) (a .address) (a .w .0)
+    (c .before .before .before .before .local-no .result .0) (c .before .before .before .before .before .read-no .result .0)
+    (c .before .before .before .before .local-no .ensures) (c .before .before .before .before .before .read-no .ensures)
     (sym (c .before .before .before .before .before .before .before .before .before .writes-to .ensures) ∙ not-false _ (c .before .before .before .before .before .before .before .before .if1 .left))
     (sym (c .before .before .before .before .before .before .before .own-of .ensures) ∙ not-false _ (c .before .before .before .before .before .before .if2 .left))
     (sym (c .before .before .before .before2 .ensures) ∙ not-false _ (c .before .before .if3 .left))
-    (c .before .remote-to .result) (c .before .remote-to .ensures)
+    (c .before .remote-no .result .0) (c .before .remote-no .ensures)
 
 pub makes-local-spec : {M : Type 1} → statement M
 makes-local-spec =
@@ -63,10 +63,10 @@ makes-local-spec =
     returns
     own-of-requires
     returns-2
-    first-of-requires
-    first-of-requires-2
+    read-no-requires
+    local-no-requires
     before-requires
     returns-3
-    remote-to-requires
+    remote-no-requires
     before-requires-2
     returns-4)

@@ -6,8 +6,8 @@ use borrow.Author.Needs.{needs}
 use Rattle.judge_sights.proofs.sight_broken.Statement.{statement}
 use Rattle.judge_sights.proofs.sight_broken.Tie as tie
 
-first-of-requires : tie.Need-first-of-requires
-first-of-requires c κs = search needs
+read-no-requires : tie.Need-read-no-requires
+read-no-requires c κs = search needs
 
 place-of-requires : tie.Need-place-of-requires
 place-of-requires c κs = search needs
@@ -15,8 +15,8 @@ place-of-requires c κs = search needs
 returns : tie.Need-returns
 returns c =
     let a = c .before .before .before .before .args in
-    sight-absent (a .x) (a .places .now) (a .load) (a .k) (c .before .place-of .result)
-    (c .before .place-of .ensures ∙ ap (placed (a .places .now)) (c .before .before .first-of .ensures .0)) (c .if1 .taken)
+    sight-absent (a .x) (a .places .now) (a .load .0) (a .k) (c .before .place-of .result)
+    (c .before .place-of .ensures ∙ ap (placed (a .places .now)) (c .before .before .read-no .ensures)) (c .if1 .taken)
 
 address-of-requires : tie.Need-address-of-requires
 address-of-requires c κs = search needs
@@ -33,8 +33,8 @@ data-byte-requires c κs = search needs
 returns-2 : tie.Need-returns-2
 returns-2 c =
     let a = c .before .before .before .before .before .before .before .args in
-    sight-is (a .x) (a .places .now) (a .load) (a .k) (c .before .before .before .before .place-of .result)
-    (c .before .before .before .before .place-of .ensures ∙ ap (placed (a .places .now)) (c .before .before .before .before .before .first-of .ensures .0))
+    sight-is (a .x) (a .places .now) (a .load .0) (a .k) (c .before .before .before .before .place-of .result)
+    (c .before .before .before .before .place-of .ensures ∙ ap (placed (a .places .now)) (c .before .before .before .before .before .read-no .ensures))
     (c .before .before .before .if1 .left) (c .before .before .address-of .result) (c .before .byte-read .result)
     (c .data-byte .result) (c .before .before .address-of .ensures .0) (c .before .byte-read .ensures) (c .data-byte .ensures)
 
@@ -42,7 +42,7 @@ pub sight-broken-spec : {M : Type 1} → statement M
 sight-broken-spec =
     tie.close
     (tie.spec
-    first-of-requires
+    read-no-requires
     place-of-requires
     returns
     address-of-requires

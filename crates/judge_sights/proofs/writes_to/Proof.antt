@@ -22,7 +22,7 @@ is-store-requires c κs = search needs
 returns : tie.Need-returns
 returns c =
     let a = c .before .before .before .before .args in
-    writes-none (a .is) (a .w) (a .address) (meant (c .before .before .kind-of .result)) (c .before .before .kind-of .ensures)
+    writes-none (a .is) (a .w .0) (a .address) (meant (c .before .before .kind-of .result)) (c .before .before .kind-of .ensures)
     (sym (c .before .is-store .ensures) ∙ not-true _ (c .if1 .taken))
 
 address-of-requires : tie.Need-address-of-requires
@@ -31,7 +31,7 @@ address-of-requires c κs = search needs
 returns-2 : tie.Need-returns-2
 returns-2 c =
     let a = c .before .before .before .before .before .before .args in
-    writes-above (a .is) (a .w) (a .address) (meant (c .before .before .before .before .kind-of .result))
+    writes-above (a .is) (a .w .0) (a .address) (meant (c .before .before .before .before .kind-of .result))
     (c .before .before .before .before .kind-of .ensures) (omega arith)
 
 size-of-requires : tie.Need-size-of-requires
@@ -44,7 +44,7 @@ returns-3 : tie.Need-returns-3
 returns-3 c =
     let a = c .before .before .before .before .before .before .before .args in
     ap₂ (λ (from size : ℕ). ltb (a .address) (from + size)) (c .before .before .address-of .ensures .0) (c .size-of .ensures .0) ∙
-    writes-there (a .is) (a .w) (a .address) (meant (c .before .before .before .before .before .kind-of .result))
+    writes-there (a .is) (a .w .0) (a .address) (meant (c .before .before .before .before .before .kind-of .result))
     (c .before .before .before .before .before .kind-of .ensures)
     (sym (c .before .before .before .before .is-store .ensures) ∙ not-false _ (c .before .before .before .if1 .left))
     (omega arith)

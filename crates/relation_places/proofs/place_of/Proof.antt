@@ -9,10 +9,10 @@ element-copy-out-result : tie.Need-element-copy-out-result
 element-copy-out-result c = search needs
 
 returns : tie.Need-returns
-returns c = sym (placed-there (c .before .before .args .places .now) (c .before .before .args .operation) (c .before .if1 .taken))
+returns c = sym (placed-there (c .before .before .args .places .now) (c .before .before .args .operation .0) (c .before .if1 .taken))
 
 returns-2 : tie.Need-returns-2
-returns-2 c = sym (placed-past (c .before .args .places .now) (c .before .args .operation) (c .if1 .left))
+returns-2 c = sym (placed-past (c .before .args .places .now) (c .before .args .operation .0) (c .if1 .left))
 
 pub place-of-spec : {M : Type 1} → statement M
 place-of-spec = tie.close (tie.spec element-copy-out-result returns returns-2)

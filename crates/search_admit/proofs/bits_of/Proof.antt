@@ -8,19 +8,19 @@ field-of-requires : tie.Need-field-of-requires
 field-of-requires c κs = search needs
 
 returns : tie.Need-returns
-returns c = λ i. let a = c .before .before .args in bits-none (a .rows .now) (a .stand .lo) (a .stand .hi) (a .m) i (c .before .field-of .ensures) (c .if1 .taken)
+returns c = λ i. let a = c .before .before .args in bits-none (a .rows .now) (a .stand .lo) (a .stand .hi) (a .m .0) i (c .before .field-of .ensures) (c .if1 .taken)
 
 has-requires : tie.Need-has-requires
 has-requires c κs = search needs
 
 returns-2 : tie.Need-returns-2
-returns-2 c = λ i. let a = c .before .before .before .before .args in bits-absent (a .rows .now) (a .stand .lo) (a .stand .hi) (a .m) i (c .before .before .before .field-of .ensures) (c .before .has .ensures) (c .if2 .taken)
+returns-2 c = λ i. let a = c .before .before .before .before .args in bits-absent (a .rows .now) (a .stand .lo) (a .stand .hi) (a .m .0) i (c .before .before .before .field-of .ensures) (c .before .has .ensures) (c .if2 .taken)
 
 field-of-requires-2 : tie.Need-field-of-requires-2
 field-of-requires-2 c κs = search needs
 
 returns-3 : tie.Need-returns-3
-returns-3 c = λ i. let a = c .before .before .before .before .before .args in bits-there (a .rows .now) (a .stand .lo) (a .stand .hi) (a .m) i (c .before .before .before .before .field-of .ensures) (c .before .before .before .if1 .left) (c .before .before .has .ensures) (c .before .if2 .left) (c .field-of2 .ensures)
+returns-3 c = λ i. let a = c .before .before .before .before .before .args in bits-there (a .rows .now) (a .stand .lo) (a .stand .hi) (a .m .0) i (c .before .before .before .before .field-of .ensures) (c .before .before .before .if1 .left) (c .before .before .has .ensures) (c .before .if2 .left) (c .field-of2 .ensures)
 
 pub bits-of-spec : {M : Type 1} → statement M
 bits-of-spec =

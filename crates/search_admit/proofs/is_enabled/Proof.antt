@@ -19,8 +19,8 @@ returns : tie.Need-returns
 unfolding enabled
 returns c =
     let a = c .before .before .before .args in
-    ap (λ (b : Bool). b && readsRecorded (a .rows .now) (a .stand .lo) (a .stand .hi) (a .words .now) (a .x))
-    (sym (not-true _ (c .if1 .taken)) ∙ ready-by (a .rows .now) (a .stand .lo) (a .stand .hi) (a .x) (c .before .before .set-of .ensures .0) (c .before .before .set-of .ensures .1) (c .before .subset .ensures))
+    ap (λ (b : Bool). b && readsRecorded (a .rows .now) (a .stand .lo) (a .stand .hi) (a .words .now) (a .x .0))
+    (sym (not-true _ (c .if1 .taken)) ∙ ready-by (a .rows .now) (a .stand .lo) (a .stand .hi) (a .x .0) (c .before .before .set-of .ensures .0) (c .before .before .set-of .ensures .1) (c .before .subset .ensures))
 
 reads-right-requires : tie.Need-reads-right-requires
 reads-right-requires c κs = search needs
@@ -29,7 +29,7 @@ returns-2 : tie.Need-returns-2
 unfolding enabled
 returns-2 c =
     let a = c .before .before .before .before .args in
-    kept (ready-by (a .rows .now) (a .stand .lo) (a .stand .hi) (a .x) (c .before .before .before .set-of .ensures .0) (c .before .before .before .set-of .ensures .1) (c .before .before .subset .ensures)) (not-false _ (c .before .if1 .left)) (c .reads-right .ensures)
+    kept (ready-by (a .rows .now) (a .stand .lo) (a .stand .hi) (a .x .0) (c .before .before .before .set-of .ensures .0) (c .before .before .before .set-of .ensures .1) (c .before .before .subset .ensures)) (not-false _ (c .before .if1 .left)) (c .reads-right .ensures)
 
 pub is-enabled-spec : {M : Type 1} → statement M
 is-enabled-spec = tie.close (tie.spec set-of-requires subset-requires returns reads-right-requires returns-2)

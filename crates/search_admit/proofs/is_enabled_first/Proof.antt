@@ -21,8 +21,8 @@ returns : tie.Need-returns
 unfolding enabled
 returns c =
     let a = c .before .before .before .args in
-    ap (λ (b : Bool). b && readsRecorded (a .rows .now) 0 0 (a .words .now) (a .x))
-    (sym (not-true _ (c .if1 .taken)) ∙ ready-by (a .rows .now) 0 0 (a .x) (c .before .before .set-of .ensures .0) (c .before .before .set-of .ensures .1) (c .before .subset .ensures))
+    ap (λ (b : Bool). b && readsRecorded (a .rows .now) 0 0 (a .words .now) (a .x .0))
+    (sym (not-true _ (c .if1 .taken)) ∙ ready-by (a .rows .now) 0 0 (a .x .0) (c .before .before .set-of .ensures .0) (c .before .before .set-of .ensures .1) (c .before .subset .ensures))
 
 field-of-requires : tie.Need-field-of-requires
 field-of-requires c κs = search needs
@@ -49,11 +49,11 @@ returns-2 : tie.Need-returns-2
 unfolding enabled
 returns-2 c =
     let a = c .before .before .before .before .before .before .before .before .before .before .args in
-    kept (ready-by (a .rows .now) 0 0 (a .x) (c .before .before .before .before .before .before .before .before .before .set-of .ensures .0) (c .before .before .before .before .before .before .before .before .before .set-of .ensures .1) (c .before .before .before .before .before .before .before .before .subset .ensures)) (not-false _ (c .before .before .before .before .before .before .before .if1 .left))
-    (reads-is (a .rows .now) (a .words .now) 0 0 (a .x) 0 (c .agrees .ensures)
+    kept (ready-by (a .rows .now) 0 0 (a .x .0) (c .before .before .before .before .before .before .before .before .before .set-of .ensures .0) (c .before .before .before .before .before .before .before .before .before .set-of .ensures .1) (c .before .before .before .before .before .before .before .before .subset .ensures)) (not-false _ (c .before .before .before .before .before .before .before .if1 .left))
+    (reads-is (a .rows .now) (a .words .now) 0 0 (a .x .0) 0 (c .agrees .ensures)
     (c .before .before .before .before .before .word-at .ensures ∙ ap (λ (v : ℕ). getD (a .words .now) (v % 128) 0) (c .before .before .before .before .before .before .field-of .ensures))
     (c .before .before .before .word-at2 .ensures ∙ ap (λ (v : ℕ). getD (a .words .now) (v % 128) 0) (c .before .before .before .before .field-of2 .ensures))
-    (local-none (a .rows .now) (a .x)) (c .before .field-of4 .ensures) (c .before .before .field-of3 .ensures))
+    (local-none (a .rows .now) (a .x .0)) (c .before .field-of4 .ensures) (c .before .before .field-of3 .ensures))
 
 pub is-enabled-first-spec : {M : Type 1} → statement M
 is-enabled-first-spec =

@@ -20,8 +20,8 @@ returns c =
     λ i.
     let a = c .before .before .before .args in
     zero-has i
-    ∙ sym (any-missing (a .rows .now) 6 (a .x) (a .stand .lo) (a .stand .hi) (c .before .before .set-of .ensures .0) (c .before .before .set-of .ensures .1) (c .before .subset .ensures) (c .if1 .taken) (λ m. standsLocal (a .rows .now) (a .stand .lo) (a .stand .hi) m && bit (writtenBits (a .rows .now) m) i))
-    ∙ local-is (a .rows .now) (a .stand .lo) (a .stand .hi) (a .x) i
+    ∙ sym (any-missing (a .rows .now) 6 (a .x .0) (a .stand .lo) (a .stand .hi) (c .before .before .set-of .ensures .0) (c .before .before .set-of .ensures .1) (c .before .subset .ensures) (c .if1 .taken) (λ m. standsLocal (a .rows .now) (a .stand .lo) (a .stand .hi) m && bit (writtenBits (a .rows .now) m) i))
+    ∙ local-is (a .rows .now) (a .stand .lo) (a .stand .hi) (a .x .0) i
 
 minus-requires : tie.Need-minus-requires
 minus-requires c κs = search needs
@@ -35,8 +35,8 @@ returns-2 c =
     let a = c .before .before .before .before .before .args in
     let s = c .before .minus .result in
     c .pending-bits .ensures i
-    ∙ local-by (a .rows .now) (a .stand .lo) (a .stand .hi) (a .x) (s .lo) (s .hi) i
-    (missing-is (a .rows .now) 6 (a .x) (a .stand .lo) (a .stand .hi) (c .before .before .before .before .set-of .result .lo) (c .before .before .before .before .set-of .result .hi) (s .lo) (s .hi) (c .before .before .before .before .set-of .ensures .0) (c .before .before .before .before .set-of .ensures .1) (c .before .minus .ensures))
+    ∙ local-by (a .rows .now) (a .stand .lo) (a .stand .hi) (a .x .0) (s .lo) (s .hi) i
+    (missing-is (a .rows .now) 6 (a .x .0) (a .stand .lo) (a .stand .hi) (c .before .before .before .before .set-of .result .lo) (c .before .before .before .before .set-of .result .hi) (s .lo) (s .hi) (c .before .before .before .before .set-of .ensures .0) (c .before .before .before .before .set-of .ensures .1) (c .before .minus .ensures))
 
 pub local-bits-spec : {M : Type 1} → statement M
 local-bits-spec =

@@ -11,7 +11,7 @@ field-of-requires : tie.Need-field-of-requires
 field-of-requires c κs = search needs
 
 returns : tie.Need-returns
-returns c = let a = c .before .before .args in reads-nothing (a .rows .now) (a .words .now) (a .stand .lo) (a .stand .hi) (a .x) (sym (c .before .field-of .ensures) ∙ c .if1 .taken)
+returns c = let a = c .before .before .args in reads-nothing (a .rows .now) (a .words .now) (a .stand .lo) (a .stand .hi) (a .x .0) (sym (c .before .field-of .ensures) ∙ c .if1 .taken)
 
 local-bits-requires : tie.Need-local-bits-requires
 local-bits-requires c κs = search needs
@@ -37,7 +37,7 @@ agrees-requires c κs = search needs
 returns-2 : tie.Need-returns-2
 returns-2 c =
     let a = c .before .before .before .before .before .before .before .before .before .args in
-    reads-is (a .rows .now) (a .words .now) (a .stand .lo) (a .stand .hi) (a .x) (c .before .before .before .before .before .before .local-bits .result) (c .agrees .ensures)
+    reads-is (a .rows .now) (a .words .now) (a .stand .lo) (a .stand .hi) (a .x .0) (c .before .before .before .before .before .before .local-bits .result) (c .agrees .ensures)
     (c .before .before .before .before .word-at .ensures ∙ ap (λ (v : ℕ). getD (a .words .now) (v % 128) 0) (c .before .before .before .before .before .field-of2 .ensures))
     (c .before .before .word-at2 .ensures ∙ ap (λ (v : ℕ). getD (a .words .now) (v % 128) 0) (c .before .before .before .field-of3 .ensures))
     (c .before .before .before .before .before .before .local-bits .ensures) (c .before .field-of4 .ensures) (c .before .before .before .before .before .before .before .before .field-of .ensures)

@@ -9,6 +9,9 @@ use Rattle.search_admit.proofs.unwrite.Tie as tie
 field-of-requires : tie.Need-field-of-requires
 field-of-requires c κs = search needs
 
+rem-at : tie.Need-rem-at
+rem-at c = search needs
+
 mul-words : tie.Need-mul-words
 mul-words c = search needs
 
@@ -23,4 +26,4 @@ returns c = let a = c .before .before .args in ap (λ (v : ℕ). set (a .words .
 
 pub unwrite-spec : {M : Type 1} → statement M
 unwrite-spec =
-    tie.close (tie.spec field-of-requires mul-words slice-write-words same-length returns)
+    tie.close (tie.spec field-of-requires rem-at mul-words slice-write-words same-length returns)

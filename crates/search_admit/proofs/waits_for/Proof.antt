@@ -14,13 +14,13 @@ before-requires : tie.Need-before-requires
 before-requires c κs = search needs
 
 returns : tie.Need-returns
-returns c = let a = c .before .before .before .before .args in waits-first (a .rows .now) (a .places .now) (a .x) (a .m) (c .before .before .before .field-of .ensures) (c .before .before .field-of2 .ensures) (c .before .before2 .ensures) (c .if1 .taken)
+returns c = let a = c .before .before .before .before .args in waits-first (a .rows .now) (a .places .now) (a .x .0) (a .m .0) (c .before .before .before .field-of .ensures) (c .before .before .field-of2 .ensures) (c .before .before2 .ensures) (c .if1 .taken)
 
 returns-2 : tie.Need-returns-2
-returns-2 c = let a = c .before .before .before .before .before .args in waits-not (a .rows .now) (a .places .now) (a .x) (a .m) (c .before .before .before .before .field-of .ensures) (c .before .before .before .field-of2 .ensures) (c .before .before .before2 .ensures) (c .before .if1 .left) (c .if2 .taken)
+returns-2 c = let a = c .before .before .before .before .before .before .args in waits-not (a .rows .now) (a .places .now) (a .x .0) (a .m .0) (c .before .before .before .before .before .field-of .ensures) (c .before .before .before .before .field-of2 .ensures) (c .before .before .before .before2 .ensures) (c .before .before .if1 .left) (c .if2 .taken)
 
 returns-3 : tie.Need-returns-3
-returns-3 c = let a = c .before .before .before .before .before .before .args in waits-not-own (a .rows .now) (a .places .now) (a .x) (a .m) (c .before .before .before .before .before .field-of .ensures) (c .before .before .before .before .field-of2 .ensures) (c .before .before .before .before2 .ensures) (c .before .before .if1 .left) (c .if3 .taken)
+returns-3 c = let a = c .before .before .before .before .before .before .before .before .args in waits-not-own (a .rows .now) (a .places .now) (a .x .0) (a .m .0) (c .before .before .before .before .before .before .before .field-of .ensures) (c .before .before .before .before .before .before .field-of2 .ensures) (c .before .before .before .before .before .before2 .ensures) (c .before .before .before .before .if1 .left) (c .if3 .taken)
 
 field-of-requires-3 : tie.Need-field-of-requires-3
 field-of-requires-3 c κs = search needs
@@ -32,7 +32,7 @@ before-requires-2 : tie.Need-before-requires-2
 before-requires-2 c κs = search needs
 
 returns-4 : tie.Need-returns-4
-returns-4 c = let a = c .before .before .before .before .before .before .before .before .before .args in waits-last (a .rows .now) (a .places .now) (a .x) (a .m) (c .before .before .before .before .before .before .before .before .field-of .ensures) (c .before .before .before .before .before .before .before .field-of2 .ensures) (c .before .before .before .before .before .before .before2 .ensures) (c .before .before .before .before .before .if1 .left) (c .before .before .before .before .if2 .left) (c .before .before .before .if3 .left) (c .before .before .field-of3 .ensures) (c .before .field-of4 .ensures) (c .before3 .ensures)
+returns-4 c = let a = c .before .before .before .before .before .before .before .before .before .before .before .args in waits-last (a .rows .now) (a .places .now) (a .x .0) (a .m .0) (c .before .before .before .before .before .before .before .before .before .before .field-of .ensures) (c .before .before .before .before .before .before .before .before .before .field-of2 .ensures) (c .before .before .before .before .before .before .before .before .before2 .ensures) (c .before .before .before .before .before .before .before .if1 .left) (c .before .before .before .before .before .if2 .left) (c .before .before .before .if3 .left) (c .before .before .field-of3 .ensures) (c .before .field-of4 .ensures) (c .before3 .ensures)
 
 pub waits-for-spec : {M : Type 1} → statement M
 waits-for-spec =

@@ -15,7 +15,7 @@ use Rattle.search_admit.proofs.waits_for_any.Tie as tie
 
 abbrev Inv-loop : tie.InvT-loop
 Inv-loop rows places missing x m₀ m =
-    Over (missing .lo) (missing .hi) m × (anyBelow m (λ i. holds (missing .lo) (missing .hi) i && waitsFor rows places x i) ≡ false)
+    Over (missing .lo) (missing .hi) m × (anyBelow m (λ i. holds (missing .lo) (missing .hi) i && waitsFor rows places (x .0) i) ≡ false)
 
 abbrev μ-loop : tie.MeasureT-loop
 μ-loop rows places missing x m₀ m = 128 - m
@@ -27,7 +27,7 @@ loop-holds : tie.Need-loop-holds Inv-loop μ-loop
 loop-holds c =
     let a = c .before .args in
     let s = a .missing in
-    (over (s .lo) (s .hi) 0 (c .first .ensures), over-starts (s .lo) (s .hi) (waitsFor (a .rows .now) (a .places .now) (a .x)) (c .first .ensures))
+    (over (s .lo) (s .hi) 0 (c .first .ensures), over-starts (s .lo) (s .hi) (waitsFor (a .rows .now) (a .places .now) (a .x .0)) (c .first .ensures))
 
 waits-for-requires : tie.Need-waits-for-requires Inv-loop μ-loop
 waits-for-requires c κs = search needs
@@ -36,7 +36,7 @@ returns : tie.Need-returns Inv-loop μ-loop
 returns c =
     let a = c .before .before .before .before .before .args in
     let s = a .missing in
-    sym (any-passes (λ k. holds (s .lo) (s .hi) k && waitsFor (a .rows .now) (a .places .now) (a .x) k) 128 (c .before .before .before .loop .m) (c .before .before .loop-test .taken)
+    sym (any-passes (λ k. holds (s .lo) (s .hi) k && waitsFor (a .rows .now) (a .places .now) (a .x .0) k) 128 (c .before .before .before .loop .m) (c .before .before .loop-test .taken)
     (and-both (c .before .before .before .loop .inv .0 .member (c .before .before .loop-test .taken)) (sym (c .before .waits-for .ensures) ∙ c .if1 .taken)))
 
 add-from : tie.Need-add-from Inv-loop μ-loop
@@ -54,7 +54,7 @@ loop-again c =
     let a = c .before .before .before .before .before .before .args in
     let s = a .missing in (
       over (s .lo) (s .hi) _ (c .first2 .ensures),
-      over-next (s .lo) (s .hi) (waitsFor (a .rows .now) (a .places .now) (a .x)) (c .before .before .before .before .loop .inv .0) (c .before .before .before .loop-test .taken) (c .first2 .ensures)
+      over-next (s .lo) (s .hi) (waitsFor (a .rows .now) (a .places .now) (a .x .0)) (c .before .before .before .before .loop .inv .0) (c .before .before .before .loop-test .taken) (c .first2 .ensures)
           ∙ ap₂ _||_ (c .before .before .before .before .loop .inv .1) (sym (c .before .before .waits-for .ensures) ∙ c .before .if1 .left),
     )
 
@@ -62,7 +62,7 @@ returns-2 : tie.Need-returns-2 Inv-loop μ-loop
 returns-2 c =
     let a = c .before .before .before .args in
     let s = a .missing in
-    sym (c .before .loop .inv .1) ∙ over-ends (s .lo) (s .hi) (waitsFor (a .rows .now) (a .places .now) (a .x)) (c .before .loop .inv .0) (c .loop-test .left)
+    sym (c .before .loop .inv .1) ∙ over-ends (s .lo) (s .hi) (waitsFor (a .rows .now) (a .places .now) (a .x .0)) (c .before .loop .inv .0) (c .loop-test .left)
 
 pub waits-for-any-spec : {M : Type 1} → statement M
 waits-for-any-spec =

@@ -10,6 +10,9 @@ use Rattle.search_admit.proofs.write.Tie as tie
 field-of-requires : tie.Need-field-of-requires
 field-of-requires c κs = search needs
 
+rem-at : tie.Need-rem-at
+rem-at c = search needs
+
 mul-old : tie.Need-mul-old
 mul-old c = search needs
 
@@ -34,13 +37,14 @@ same-length c = search needs
 returns : tie.Need-returns
 returns c =
     let a = c .before .before .before .before .before .args in
-    (ap (λ (v : ℕ). getD (a .words .now) (v % 128) 0) (c .before .before .before .field-of .ensures), written (a .rows .now) (a .words .now) (a .x) (c .before .before .before .field-of .ensures) (c .before .field-of2 .ensures) (c .field-of3 .ensures))
+    (ap (λ (v : ℕ). getD (a .words .now) (v % 128) 0) (c .before .before .before .field-of .ensures), written (a .rows .now) (a .words .now) (a .x .0) (c .before .before .before .field-of .ensures) (c .before .field-of2 .ensures) (c .field-of3 .ensures))
 
 pub write-spec : {M : Type 1} → statement M
 write-spec =
     tie.close
     (tie.spec
     field-of-requires
+    rem-at
     mul-old
     slice-read-old
     field-of-requires-2

@@ -1,30 +1,37 @@
 -- Not an R; else each turn takes in the own RV of one store.
 use native.Mathlib.Omega.{arith}
-use Prim.Native.Nat.{ℕ, _+_, _-_, _/_, _≤_}
-use mathlib.Core.Path.{ap₂, _∙_}
+use Prim.Native.Nat.{ℕ, _-_, _/_, _≤_}
+use mathlib.Core.Path.{_≡_, ap, ap₂, _∙_}
 use mathlib.Core.Bool.{Bool, _&&_, _||_}
 use lib.ListN.{getD}
 use lib.Dec.{eqb}
-use Rattle.model.specs.Execution.{kindOf, isStore}
+use Rattle.model.specs.Execution.{Kind, kindOf, isStore, RV, numberFrom}
 use Rattle.search_sets.specs.Set.{holds}
 use Rattle.search_constraints.specs.Rows.{storesToLineBy}
 use Rattle.search_sets.proofs.Members.{Grown, grown-starts, grown-more, grown-all, holds-none}
 use Rattle.search_constraints.proofs.SetLaws.{bypass-R, bypass-none}
+use Rattle.search_constraints.proofs.bypasses_at.Tie as tie
 use borrow.Author.Needs.{needs}
 use Rattle.search_constraints.proofs.bypasses_at.Statement.{statement}
 use Rattle.search_constraints.proofs.bypasses_at.Tie as tie
 
+own-number : {j k : Kind} {f first p processor : ℕ} → j ≡ k → f ≡ first → p ≡ processor → numberFrom f j (RV p) ≡ numberFrom first k (RV processor)
+own-number h i q = cc (h, i, q)
+
 abbrev Inv-loop : tie.InvT-loop
-Inv-loop n kinds firsts processors addresses w role set₀ own line v₀ set v =
-    (v ≤ n) × Grown (holds 0 0) (λ u a. isStore (kindOf (getD kinds u 0)) && (eqb (getD processors u 0) own && eqb (getD addresses u 0 / 8) line) && eqb a (1 + getD firsts u 0 + getD processors u 0)) (holds (set .lo) (set .hi)) v
+Inv-loop n kinds firsts processors addresses role set₀ reader own line v₀ set v =
+    (v ≤ n)
+    × Grown (holds 0 0)
+    (λ u a. isStore (kindOf (getD kinds u 0)) && (eqb (getD processors u 0) own && eqb (getD addresses u 0 / 8) line) && eqb a (numberFrom (getD firsts u 0) (kindOf (getD kinds u 0)) (RV (getD processors u 0))))
+    (holds (set .lo) (set .hi)) v
 
 abbrev μ-loop : tie.MeasureT-loop
-μ-loop n kinds firsts processors addresses w role set₀ own line v₀ set v = n - v
+μ-loop n kinds firsts processors addresses role set₀ reader own line v₀ set v = n - v
 
 returns : tie.Need-returns Inv-loop μ-loop
 returns c = λ a l.
     let g = c .before .args in
-    bypass-none (g .n) (g .role) (λ v. storesToLineBy (g .kinds .now) (g .processors .now) (g .addresses .now) (g .w) v && eqb a (1 + getD (g .firsts .now) v 0 + getD (g .processors .now) v 0)) 0 0 a (holds-none a) (c .if1 .taken)
+    bypass-none (g .n) (g .role) (λ v. storesToLineBy (g .kinds .now) (g .processors .now) (g .addresses .now) (g .w .0) v && eqb a (numberFrom (getD (g .firsts .now) v 0) (kindOf (getD (g .kinds .now) v 0)) (RV (getD (g .processors .now) v 0)))) 0 0 a (holds-none a) (c .if1 .taken)
 
 element-copy-out-own : tie.Need-element-copy-out-own Inv-loop μ-loop
 element-copy-out-own c = search needs
@@ -38,11 +45,14 @@ loop-holds c = (omega arith, grown-starts _ _)
 element-copy-out-processor : tie.Need-element-copy-out-processor Inv-loop μ-loop
 element-copy-out-processor c = search needs
 
+element-copy-out-kind-of : tie.Need-element-copy-out-kind-of Inv-loop μ-loop
+element-copy-out-kind-of c = search needs
+
+kind-of-requires : tie.Need-kind-of-requires Inv-loop μ-loop
+kind-of-requires c κs = search needs
+
 element-copy-out-stores-to-line : tie.Need-element-copy-out-stores-to-line Inv-loop μ-loop
 element-copy-out-stores-to-line c = search needs
-
-element-copy-out-stores-to-line-2 : tie.Need-element-copy-out-stores-to-line-2 Inv-loop μ-loop
-element-copy-out-stores-to-line-2 c = search needs
 
 stores-to-line-requires : tie.Need-stores-to-line-requires Inv-loop μ-loop
 stores-to-line-requires c κs = search needs
@@ -56,14 +66,11 @@ element-copy-out-wide16 c = search needs
 wide16-requires : tie.Need-wide16-requires Inv-loop μ-loop
 wide16-requires c κs = search needs
 
-add-number : tie.Need-add-number Inv-loop μ-loop
-add-number c = search needs
-
 wide-requires : tie.Need-wide-requires Inv-loop μ-loop
 wide-requires c κs = search needs
 
-add-number-2 : tie.Need-add-number-2 Inv-loop μ-loop
-add-number-2 c = search needs
+number-of-requires : tie.Need-number-of-requires Inv-loop μ-loop
+number-of-requires c κs = search needs
 
 insert-if-requires : tie.Need-insert-if-requires Inv-loop μ-loop
 insert-if-requires c κs = search needs
@@ -72,22 +79,27 @@ add-v : tie.Need-add-v Inv-loop μ-loop
 add-v c = search needs
 
 loop-less : tie.Need-loop-less Inv-loop μ-loop
-loop-less c = omega (arith, c .before .before .before .before .before .before .before .before .loop-test .taken)
+loop-less c = omega (arith, c .before .before .before .before .before .before .before .before .before .before .loop-test .taken)
 
 loop-again : tie.Need-loop-again Inv-loop μ-loop
 loop-again c =
-    let s = c .before .before .before .before .before .before .before .before .before .loop .set in (
-      omega (arith, c .before .before .before .before .before .before .before .before .loop-test .taken),
-      grown-more (c .before .before .before .before .before .before .before .before .before .loop .inv .1) _
+    let s = c .before .before .before .before .before .before .before .before .before .before .before .loop .set in
+    let kind = c .before .before .before .before .before .before .before .kind-of .ensures in
+    let g = c .before .before .before .before .before .before .before .before .before .before .before .before .before .before .before .args in
+    let v = c .before .before .before .before .before .before .before .before .before .before .before .loop .v in (
+      omega (arith, c .before .before .before .before .before .before .before .before .before .before .loop-test .taken),
+      grown-more (c .before .before .before .before .before .before .before .before .before .before .before .loop .inv .1) _
           (λ a l. c .insert-if .ensures a l
-          ∙ ap₂ (λ (b : Bool) (k : ℕ). holds (s .lo) (s .hi) a || (b && eqb a k)) (c .before .before .before .before .stores-to-line .ensures) (ap₂ (λ (f p : ℕ). 1 + f + p) (c .before .before .wide16 .ensures .0) (c .before .wide .ensures .0))),
+          ∙ ap₂ (λ (b : Bool) (k : ℕ). holds (s .lo) (s .hi) a || (b && eqb a k))
+          (c .before .before .before .before .before .stores-to-line .ensures ∙ ap (λ (k : Kind). isStore k && (eqb (getD (g .processors .now) v 0) (getD (g .processors .now) (g .w .0) 0) && eqb (getD (g .addresses .now) v 0 / 8) (getD (g .addresses .now) (g .w .0) 0 / 8))) kind)
+          (c .before .number-of .ensures .0 ∙ own-number kind (c .before .before .before .wide16 .ensures .0) (c .before .before .wide .ensures .0))),
     )
 
 returns-2 : tie.Need-returns-2 Inv-loop μ-loop
 returns-2 c = λ a l.
     let g = c .before .before .before .before .before .args in
     grown-all (c .before .loop .inv .1) (c .before .loop .inv .0) (c .loop-test .left) a l
-    ∙ bypass-R (g .n) (g .role) (λ v. storesToLineBy (g .kinds .now) (g .processors .now) (g .addresses .now) (g .w) v && eqb a (1 + getD (g .firsts .now) v 0 + getD (g .processors .now) v 0)) (c .before .before .before .before .if1 .left)
+    ∙ bypass-R (g .n) (g .role) (λ v. storesToLineBy (g .kinds .now) (g .processors .now) (g .addresses .now) (g .w .0) v && eqb a (numberFrom (getD (g .firsts .now) v 0) (kindOf (getD (g .kinds .now) v 0)) (RV (getD (g .processors .now) v 0)))) (c .before .before .before .before .if1 .left)
 
 pub bypasses-at-spec : {M : Type 1} → statement M
 bypasses-at-spec =
@@ -100,15 +112,15 @@ bypasses-at-spec =
     element-copy-out-line
     loop-holds
     element-copy-out-processor
+    element-copy-out-kind-of
+    kind-of-requires
     element-copy-out-stores-to-line
-    element-copy-out-stores-to-line-2
     stores-to-line-requires
     mul-wide16
     element-copy-out-wide16
     wide16-requires
-    add-number
     wide-requires
-    add-number-2
+    number-of-requires
     insert-if-requires
     add-v
     loop-less

@@ -1,13 +1,10 @@
 -- A store, of the processor, to the line.
-use mathlib.Core.Path.{ap, ap₂, _∙_}
+use mathlib.Core.Path.{ap₂, _∙_}
 use mathlib.Core.Bool.{_&&_}
-use Rattle.model.specs.Execution.{isStore}
+use Rattle.search_constraints.proofs.stores_to_line.Tie as tie
 use borrow.Author.Needs.{needs}
 use Rattle.search_constraints.proofs.stores_to_line.Statement.{statement}
 use Rattle.search_constraints.proofs.stores_to_line.Tie as tie
-
-kind-of-requires : tie.Need-kind-of-requires
-kind-of-requires c κs = search needs
 
 is-store-requires : tie.Need-is-store-requires
 is-store-requires c κs = search needs
@@ -19,8 +16,7 @@ both-requires-2 : tie.Need-both-requires-2
 both-requires-2 c κs = search needs
 
 returns : tie.Need-returns
-returns c = c .both2 .ensures ∙ ap₂ _&&_ (c .before .before .is-store .ensures ∙ ap isStore (c .before .before .before .kind-of .ensures)) (c .before .both .ensures)
+returns c = c .both2 .ensures ∙ ap₂ _&&_ (c .before .before .is-store .ensures) (c .before .both .ensures)
 
 pub stores-to-line-spec : {M : Type 1} → statement M
-stores-to-line-spec =
-    tie.close (tie.spec kind-of-requires is-store-requires both-requires both-requires-2 returns)
+stores-to-line-spec = tie.close (tie.spec is-store-requires both-requires both-requires-2 returns)

@@ -1,10 +1,12 @@
 -- All RVs by rule 4; none, or two at most by rules 1 and 3.
-use Prim.Native.Nat.{_+_, _-_}
+use Prim.Native.Nat.{_-_}
 use mathlib.Core.Path.{refl, sym, ap, _∙_}
 use mathlib.Core.Bool.{Bool, _&&_, _||_}
 use lib.Dec.{eqb}
 use Rattle.search_sets.specs.Set.{holds}
 use Rattle.search_constraints.proofs.RemoteLaws.{nothing-more, fence-links, no-remotes, two-linked, both-in}
+use Rattle.search_constraints.proofs.with_remotes.Tie as tie
+use Rattle.record_decoded.specs.Kinds.{meant}
 use borrow.Author.Needs.{needs}
 use Rattle.search_constraints.proofs.with_remotes.Statement.{statement}
 use Rattle.search_constraints.proofs.with_remotes.Tie as tie
@@ -20,13 +22,13 @@ returns c = λ a l.
     let g = c .before .before .before .args in
     c .with-every-remote .ensures a l
     ∙ ap (λ (b : Bool). holds (g .set .lo) (g .set .hi) a || b)
-    (fence-links (g .marks) (g .processor) (g .first) (g .processors) a (g .role) (sym (c .before .before .has-mark .ensures) ∙ c .before .if1 .taken))
+    (fence-links (g .marks) (meant (g .kind)) (g .processor) (g .first .0) (g .processors) a (g .role) (sym (c .before .before .has-mark .ensures) ∙ c .before .if1 .taken))
 
 returns-2 : tie.Need-returns-2
 returns-2 c = λ a l.
     let g = c .before .before .before .args in
     nothing-more (holds (g .set .lo) (g .set .hi) a)
-    (no-remotes (g .marks) (g .processor) (g .first) (g .processors) a (g .role) (c .if2 .taken) (sym (c .before .before .has-mark .ensures) ∙ c .before .if1 .left))
+    (no-remotes (g .marks) (meant (g .kind)) (g .processor) (g .first .0) (g .processors) a (g .role) (c .if2 .taken) (sym (c .before .before .has-mark .ensures) ∙ c .before .if1 .left))
 
 wide-requires : tie.Need-wide-requires
 wide-requires c κs = search needs
@@ -37,11 +39,8 @@ has-mark-requires-2 c κs = search needs
 both-requires : tie.Need-both-requires
 both-requires c κs = search needs
 
-add-insert-if : tie.Need-add-insert-if
-add-insert-if c = search needs
-
-add-insert-if-2 : tie.Need-add-insert-if-2
-add-insert-if-2 c = search needs
+number-of-requires : tie.Need-number-of-requires
+number-of-requires c κs = search needs
 
 both-requires-2 : tie.Need-both-requires-2
 both-requires-2 c κs = search needs
@@ -52,14 +51,11 @@ insert-if-requires c κs = search needs
 wide-requires-2 : tie.Need-wide-requires-2
 wide-requires-2 c κs = search needs
 
+number-of-requires-2 : tie.Need-number-of-requires-2
+number-of-requires-2 c κs = search needs
+
 has-mark-requires-3 : tie.Need-has-mark-requires-3
 has-mark-requires-3 c κs = search needs
-
-add-insert-if-3 : tie.Need-add-insert-if-3
-add-insert-if-3 c = search needs
-
-add-insert-if-4 : tie.Need-add-insert-if-4
-add-insert-if-4 c = search needs
 
 both-requires-3 : tie.Need-both-requires-3
 both-requires-3 c κs = search needs
@@ -69,17 +65,18 @@ insert-if-requires-2 c κs = search needs
 
 returns-3 : tie.Need-returns-3
 returns-3 c = λ a l.
-    let g = c .before .before .before .before .before .before .before .before .before .before .before .before .args in
-    let own = c .before .before .before .before .before .before .before .before .wide .result in
-    let same = c .before .before .before .wide2 .result in
-    both-in (holds (g .set .lo) (g .set .hi) a) (c .before .before .before .before .before .both2 .result && eqb a (1 + g .first + own)) (c .before .both3 .result && eqb a (1 + g .first + same))
-    (c .before .before .before .before .insert-if .ensures a l) (c .insert-if2 .ensures a l)
-    (two-linked (g .marks) (g .processor) (g .first) (g .processors) a (g .role) (g .role - 3) own same
-    (sym (c .before .before .before .before .before .before .before .before .before .before .before .has-mark .ensures) ∙ c .before .before .before .before .before .before .before .before .before .before .if1 .left)
-    (c .before .before .before .before .before .before .before .before .before .if2 .left) refl
-    (c .before .before .before .before .before .before .before .before .wide .ensures .0) (c .before .before .before .wide2 .ensures .0)
-    (c .before .before .before .before .before .before .before .has-mark2 .ensures) (c .before .before .before .before .before .before .both .ensures)
-    (c .before .before .before .before .before .both2 .ensures) (c .before .before .has-mark3 .ensures) (c .before .both3 .ensures))
+    let g = c .before .before .before .before .before .before .before .before .before .before .before .before .before .before .args in
+    let own = c .before .before .before .before .before .before .before .number-of .result .0 in
+    let same = c .before .before .before .number-of2 .result .0 in
+    both-in (holds (g .set .lo) (g .set .hi) a) (c .before .before .before .before .before .before .both2 .result && eqb a own) (c .before .both3 .result && eqb a same)
+    (c .before .before .before .before .before .insert-if .ensures a l) (c .insert-if2 .ensures a l)
+    (two-linked (g .marks) (meant (g .kind)) (g .processor) (g .first .0) (g .processors) a (g .role) (g .role - 3) (c .before .before .before .before .before .before .before .before .before .before .wide .result) (c .before .before .before .before .wide2 .result) own same
+    (sym (c .before .before .before .before .before .before .before .before .before .before .before .before .before .has-mark .ensures) ∙ c .before .before .before .before .before .before .before .before .before .before .before .before .if1 .left)
+    (c .before .before .before .before .before .before .before .before .before .before .before .if2 .left) refl
+    (c .before .before .before .before .before .before .before .before .before .before .wide .ensures .0) (c .before .before .before .before .wide2 .ensures .0)
+    (c .before .before .before .before .before .before .before .number-of .ensures .0) (c .before .before .before .number-of2 .ensures .0)
+    (c .before .before .before .before .before .before .before .before .before .has-mark2 .ensures) (c .before .before .before .before .before .before .before .before .both .ensures)
+    (c .before .before .before .before .before .before .both2 .ensures) (c .before .before .has-mark3 .ensures) (c .before .both3 .ensures))
 
 pub with-remotes-spec : {M : Type 1} → statement M
 with-remotes-spec =
@@ -92,14 +89,12 @@ with-remotes-spec =
     wide-requires
     has-mark-requires-2
     both-requires
-    add-insert-if
-    add-insert-if-2
+    number-of-requires
     both-requires-2
     insert-if-requires
     wide-requires-2
+    number-of-requires-2
     has-mark-requires-3
-    add-insert-if-3
-    add-insert-if-4
     both-requires-3
     insert-if-requires-2
     returns-3)

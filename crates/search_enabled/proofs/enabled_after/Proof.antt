@@ -12,12 +12,12 @@ use Rattle.search_enabled.proofs.enabled_after.Statement.{statement}
 use Rattle.search_enabled.proofs.enabled_after.Tie as tie
 
 abbrev Inv-loop : tie.InvT-loop
-Inv-loop rows affected words stand x again all₀ y₀ all y =
+Inv-loop rows affected words stand again all₀ y₀ all y =
     Over (again .lo) (again .hi) y
     × Taken (holds (all₀ .lo) (all₀ .hi)) (λ k. holds (again .lo) (again .hi) k && enabled rows (stand .lo) (stand .hi) words k) (holds (all .lo) (all .hi)) y
 
 abbrev μ-loop : tie.MeasureT-loop
-μ-loop rows affected words stand x again all₀ y₀ all y = 128 - y
+μ-loop rows affected words stand again all₀ y₀ all y = 128 - y
 
 at-requires : tie.Need-at-requires Inv-loop μ-loop
 at-requires c κs = search needs
@@ -35,7 +35,7 @@ returns : tie.Need-returns Inv-loop μ-loop
 returns c =
     λ y l.
     let a = c .before .before .before .before .before .before .args in
-    after-none (a .rows .now) (a .affected .now) (a .words .now) (a .before .lo) (a .before .hi) (a .stand .lo) (a .stand .hi) (a .x) y (c .before .before .before .before .at .result .lo) (c .before .before .before .before .at .result .hi) (c .before .before .before .minus .result .lo) (c .before .before .before .minus .result .hi) (c .before .before .minus2 .result .lo) (c .before .before .minus2 .result .hi) l (c .before .before .before .before .at .ensures .0) (c .before .before .before .before .at .ensures .1) (c .before .before .before .minus .ensures y) (c .before .before .minus2 .ensures y) (c .before .subset .ensures) (c .if1 .taken)
+    after-none (a .rows .now) (a .affected .now) (a .words .now) (a .before .lo) (a .before .hi) (a .stand .lo) (a .stand .hi) (a .x .0) y (c .before .before .before .before .at .result .lo) (c .before .before .before .before .at .result .hi) (c .before .before .before .minus .result .lo) (c .before .before .before .minus .result .hi) (c .before .before .minus2 .result .lo) (c .before .before .minus2 .result .hi) l (c .before .before .before .before .at .ensures .0) (c .before .before .before .before .at .ensures .1) (c .before .before .before .minus .ensures y) (c .before .before .minus2 .ensures y) (c .before .subset .ensures) (c .if1 .taken)
 
 minus-requires-3 : tie.Need-minus-requires-3 Inv-loop μ-loop
 minus-requires-3 c κs = search needs
@@ -82,7 +82,7 @@ returns-2 c =
     λ y l.
     let a = c .before .before .before .before .before .before .before .before .before .before .args in
     taken-ends (c .before .loop .inv .1) y l (omega (arith, c .loop-test .left))
-    ∙ after-is (a .rows .now) (a .affected .now) (a .words .now) (a .before .lo) (a .before .hi) (a .stand .lo) (a .stand .hi) (a .x) y (c .before .before .before .before .before .before .before .before .at .result .lo) (c .before .before .before .before .before .before .before .before .at .result .hi) (c .before .before .before .minus3 .result .lo) (c .before .before .before .minus3 .result .hi) (c .before .before .before .before .before .before .before .minus .result .lo) (c .before .before .before .before .before .before .before .minus .result .hi) (c .before .before .before .before .before .before .minus2 .result .lo) (c .before .before .before .before .before .before .minus2 .result .hi) (c .before .before .before .before .before .before .before .before .at .ensures .0) (c .before .before .before .before .before .before .before .before .at .ensures .1) (c .before .before .before .minus3 .ensures y) (c .before .before .before .before .before .before .before .minus .ensures y) (c .before .before .before .before .before .before .minus2 .ensures y)
+    ∙ after-is (a .rows .now) (a .affected .now) (a .words .now) (a .before .lo) (a .before .hi) (a .stand .lo) (a .stand .hi) (a .x .0) y (c .before .before .before .before .before .before .before .before .at .result .lo) (c .before .before .before .before .before .before .before .before .at .result .hi) (c .before .before .before .minus3 .result .lo) (c .before .before .before .minus3 .result .hi) (c .before .before .before .before .before .before .before .minus .result .lo) (c .before .before .before .before .before .before .before .minus .result .hi) (c .before .before .before .before .before .before .minus2 .result .lo) (c .before .before .before .before .before .before .minus2 .result .hi) (c .before .before .before .before .before .before .before .before .at .ensures .0) (c .before .before .before .before .before .before .before .before .at .ensures .1) (c .before .before .before .minus3 .ensures y) (c .before .before .before .before .before .before .before .minus .ensures y) (c .before .before .before .before .before .before .minus2 .ensures y)
 
 pub enabled-after-spec : {M : Type 1} → statement M
 enabled-after-spec =

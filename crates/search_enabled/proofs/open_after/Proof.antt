@@ -16,12 +16,12 @@ common-requires c κs = search needs
 returns : tie.Need-returns
 returns c =
     λ y. let a = c .before .before .before .args in
-    open-all (a .rows .now) (a .x) (a .stand .lo) (a .stand .hi) (c .before .before .set-of .result .lo) (c .before .before .set-of .result .hi) (c .before .before .set-of .ensures .0) (c .before .before .set-of .ensures .1) (c .before .subset .ensures) (c .if1 .taken) y _
+    open-all (a .rows .now) (a .x .0) (a .stand .lo) (a .stand .hi) (c .before .before .set-of .result .lo) (c .before .before .set-of .result .hi) (c .before .before .set-of .ensures .0) (c .before .before .set-of .ensures .1) (c .before .subset .ensures) (c .if1 .taken) y _
 
 returns-2 : tie.Need-returns-2
 returns-2 c =
     λ y. let a = c .before .before .before .before .args in
-    open-some (a .rows .now) (a .x) (a .stand .lo) (a .stand .hi) (c .before .before .before .set-of .result .lo) (c .before .before .before .set-of .result .hi) (c .before .before .before .set-of .ensures .0) (c .before .before .before .set-of .ensures .1) (c .before .before .subset .ensures) (c .before .if1 .left) y _ (c .common .ensures y)
+    open-some (a .rows .now) (a .x .0) (a .stand .lo) (a .stand .hi) (c .before .before .before .set-of .result .lo) (c .before .before .before .set-of .result .hi) (c .before .before .before .set-of .ensures .0) (c .before .before .before .set-of .ensures .1) (c .before .before .subset .ensures) (c .before .if1 .left) y _ (c .common .ensures y)
 
 pub open-after-spec : {M : Type 1} → statement M
 open-after-spec =

@@ -15,7 +15,7 @@ use Rattle.search_enabled.proofs.put_affected.Statement.{statement}
 use Rattle.search_enabled.proofs.put_affected.Tie as tie
 
 abbrev Inv-loop : tie.InvT-loop
-Inv-loop affected₀ affecting y a₀ affected a = Over (affecting .lo) (affecting .hi) a × ((k : ℕ) → Taken (λ b. setAt affected₀ b k) (λ b. holds (affecting .lo) (affecting .hi) b && eqb k y) (λ b. setAt affected b k) a) × (length affected ≡ 256)
+Inv-loop affected₀ affecting y a₀ affected a = Over (affecting .lo) (affecting .hi) a × ((k : ℕ) → Taken (λ b. setAt affected₀ b k) (λ b. holds (affecting .lo) (affecting .hi) b && eqb k (y .0)) (λ b. setAt affected b k) a) × (length affected ≡ 256)
 
 abbrev μ-loop : tie.MeasureT-loop
 μ-loop affected₀ affecting y a₀ affected a = 128 - a
@@ -27,7 +27,7 @@ loop-holds : tie.Need-loop-holds Inv-loop μ-loop
 loop-holds c =
     let s = c .before .before .args .affecting in (
       over (s .lo) (s .hi) 0 (c .first .ensures),
-      λ k. taken-past (taken-starts _ _) _ (omega arith) (λ b f g. ap (λ (t : Bool). t && eqb k (c .before .before .args .y)) (c .first .ensures .none b f g)),
+      λ k. taken-past (taken-starts _ _) _ (omega arith) (λ b f g. ap (λ (t : Bool). t && eqb k (c .before .before .args .y .0)) (c .first .ensures .none b f g)),
       c .before .before .pre .1,
     )
 
@@ -53,7 +53,7 @@ loop-less c =
 loop-again : tie.Need-loop-again Inv-loop μ-loop
 loop-again c =
     let s = c .before .before .before .before .before .before .before .before .before .before .before .before .args .affecting in
-    let y = c .before .before .before .before .before .before .before .before .before .before .before .before .args .y in
+    let y = c .before .before .before .before .before .before .before .before .before .before .before .before .args .y .0 in
     let inv = c .before .before .before .before .before .before .before .before .before .loop .inv in (
       over (s .lo) (s .hi) _ (c .first2 .ensures),
       λ k. taken-past (taken-on (inv .1 k) _ (sym (ap (λ (t : Bool). t && eqb k y) (inv .0 .member (c .before .before .before .before .before .before .before .before .loop-test .taken))))

@@ -9,7 +9,7 @@ use Rattle.search_enabled.proofs.with_writers.Statement.{statement}
 use Rattle.search_enabled.proofs.with_writers.Tie as tie
 
 abbrev Inv-loop : tie.InvT-loop
-Inv-loop n rows y all₀ a₀ all a = (a ≤ n) × Taken (holds (all₀ .lo) (all₀ .hi)) (λ k. writesWordOf rows k y) (holds (all .lo) (all .hi)) a
+Inv-loop n rows y all₀ a₀ all a = (a ≤ n) × Taken (holds (all₀ .lo) (all₀ .hi)) (λ k. writesWordOf rows k (y .0)) (holds (all .lo) (all .hi)) a
 
 abbrev μ-loop : tie.MeasureT-loop
 μ-loop n rows y all₀ a₀ all a = n - a

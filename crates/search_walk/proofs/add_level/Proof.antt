@@ -69,7 +69,7 @@ same-length c = search needs
 returns : tie.Need-returns
 returns c =
     let a = c .before .before .before .before .before .before .before .before .before .before .before .before .before .before .before .before .before .before .before .before .args in
-    level-made (a .rows .now) (a .affected .now) (a .words .now) (a .levels .now) (a .x) (a .k) (c .before .before .before .before .before .before .before .before .before .before .before .before .before .before .before .before .before .at .result .lo) (c .before .before .before .before .before .before .before .before .before .before .before .before .before .before .before .before .before .at .result .hi) (c .before .before .before .before .before .before .before .before .before .before .before .before .before .before .before .before .insert .result .lo) (c .before .before .before .before .before .before .before .before .before .before .before .before .before .before .before .before .insert .result .hi) (c .before .before .before .before .before .before .before .before .before .before .before .before .before .before .at2 .result .lo) (c .before .before .before .before .before .before .before .before .before .before .before .before .before .before .at2 .result .hi) (c .before .before .before .before .before .before .before .before .before .before .before .before .before .enabled-after .result .lo) (c .before .before .before .before .before .before .before .before .before .before .before .before .before .enabled-after .result .hi) (c .before .before .before .before .before .before .before .before .before .before .before .before .open-after .result .lo) (c .before .before .before .before .before .before .before .before .before .before .before .before .open-after .result .hi)
+    level-made (a .rows .now) (a .affected .now) (a .words .now) (a .levels .now) (a .x .0) (a .k) (c .before .before .before .before .before .before .before .before .before .before .before .before .before .before .before .before .before .at .result .lo) (c .before .before .before .before .before .before .before .before .before .before .before .before .before .before .before .before .before .at .result .hi) (c .before .before .before .before .before .before .before .before .before .before .before .before .before .before .before .before .insert .result .lo) (c .before .before .before .before .before .before .before .before .before .before .before .before .before .before .before .before .insert .result .hi) (c .before .before .before .before .before .before .before .before .before .before .before .before .before .before .at2 .result .lo) (c .before .before .before .before .before .before .before .before .before .before .before .before .before .before .at2 .result .hi) (c .before .before .before .before .before .before .before .before .before .before .before .before .before .enabled-after .result .lo) (c .before .before .before .before .before .before .before .before .before .before .before .before .before .enabled-after .result .hi) (c .before .before .before .before .before .before .before .before .before .before .before .before .open-after .result .lo) (c .before .before .before .before .before .before .before .before .before .before .before .before .open-after .result .hi)
     (c .before .before .before .before .before .before .before .before .before .before .before .before .before .before .before .before .before .before .before .before .pre .2) (c .before .before .before .before .before .before .before .before .before .before .before .before .before .before .before .before .before .before .before .before .pre .0) (c .before .before .before .before .before .before .before .before .before .before .before .before .before .before .before .before .before .at .ensures) (c .before .before .before .before .before .before .before .before .before .before .before .before .before .before .before .before .insert .ensures) (c .before .before .before .before .before .before .before .before .before .before .before .before .before .before .at2 .ensures) (c .before .before .before .before .before .before .before .before .before .before .before .before .before .enabled-after .ensures) (c .before .before .before .before .before .before .before .before .before .before .before .before .open-after .ensures)
     (c .before .before .put3 .ensures
     ∙ ap (λ (l : List ℕ). putAt l (3 * (a .k + 1) + 2) (c .before .before .before .before .before .before .before .before .before .before .before .before .open-after .result .lo) (c .before .before .before .before .before .before .before .before .before .before .before .before .open-after .result .hi))

@@ -1,7 +1,7 @@
 -- Each turn refuses a candidate or takes an entry away; the first candidate that is open and not refused is the answer.
 use Rattle.search_walk.proofs.Search.{Search, square, search-starts, search-to, search-on, search-up, last-below, search-ends, search-spent, search-found, search-same}
 use borrow.Author.Tests.{not-true, not-false}
-use lib.ListN.{length, getD, take}
+use lib.ListN.{getD, take}
 use mathlib.Core.Logic.{⊎-elim}
 use mathlib.Core.Path.{refl, sym, _∙_}
 use native.Mathlib.Omega.{arith}
@@ -45,8 +45,8 @@ enter-requires c κs =
     let at = c .before .before .before .before .before .before .before .before .loop .inv in
     (omega (arith, at .within, at .from .room, at .from .few), omega (arith, at .from .few, c .before .before .before .before .before .if1 .taken), at .from .whole, at .long, at .wide)
 
-add-t27 : tie.Need-add-t27 Inv-loop μ-loop
-add-t27 c =
+add-t29 : tie.Need-add-t29 Inv-loop μ-loop
+add-t29 c =
     omega (arith, c .before .before .before .before .before .before .before .before .before .before .loop .inv .within, c .before .before .before .before .before .before .before .before .before .before .loop .inv .from .room, c .before .before .before .before .before .before .before .before .before .before .loop .inv .from .few)
 
 returns : tie.Need-returns Inv-loop μ-loop
@@ -80,20 +80,20 @@ remove-entry-requires c κs =
 
 add-c-2 : tie.Need-add-c-2 Inv-loop μ-loop
 add-c-2 c =
-    let at = c .before .before .before .before .before .before .before .before .before .before .before .loop in
-    omega (arith, last-below (at .inv) (at .k - 1) (c .remove-entry .result) (omega (arith, c .before .before .before .before .before .before .before .if3 .left)) (c .remove-entry .ensures .0) (at .inv .from .whole), at .inv .from .few)
+    let at = c .before .before .before .before .before .before .before .before .before .before .before .before .loop in
+    omega (arith, last-below (at .inv) (at .k - 1) (c .before .remove-entry .result .0) (omega (arith, c .before .before .before .before .before .before .before .before .if3 .left)) (c .before .remove-entry .ensures .0) (at .inv .from .whole), at .inv .from .few)
 
 mul-at-2 : tie.Need-mul-at-2 Inv-loop μ-loop
 mul-at-2 c =
-    omega (arith, c .before .before .before .before .before .before .before .before .before .before .before .before .before .loop .inv .within, c .before .before .before .before .before .before .before .before .before .before .before .before .before .loop .inv .from .room, c .before .before .before .before .before .before .before .before .before .before .before .before .before .loop .inv .from .few)
+    omega (arith, c .before .before .before .before .before .before .before .before .before .before .before .before .before .before .loop .inv .within, c .before .before .before .before .before .before .before .before .before .before .before .before .before .before .loop .inv .from .room, c .before .before .before .before .before .before .before .before .before .before .before .before .before .before .loop .inv .from .few)
 
 add-at-2 : tie.Need-add-at-2 Inv-loop μ-loop
 add-at-2 c =
-    omega (arith, c .before .before .before .before .before .before .before .before .before .before .before .before .before .loop .inv .within, c .before .before .before .before .before .before .before .before .before .before .before .before .before .loop .inv .from .room, c .before .before .before .before .before .before .before .before .before .before .before .before .before .loop .inv .from .few)
+    omega (arith, c .before .before .before .before .before .before .before .before .before .before .before .before .before .before .loop .inv .within, c .before .before .before .before .before .before .before .before .before .before .before .before .before .before .loop .inv .from .room, c .before .before .before .before .before .before .before .before .before .before .before .before .before .before .loop .inv .from .few)
 
 at-requires-2 : tie.Need-at-requires-2 Inv-loop μ-loop
 at-requires-2 c κs =
-    let at = c .before .before .before .before .before .before .before .before .before .before .before .before .before .loop .inv in (omega (arith, at .within, at .from .room, at .from .few), omega (arith, at .within, at .from .room, at .from .few, c .at-arg4 .given))
+    let at = c .before .before .before .before .before .before .before .before .before .before .before .before .before .before .loop .inv in (omega (arith, at .within, at .from .room, at .from .few), omega (arith, at .within, at .from .room, at .from .few, c .at-arg4 .given))
 
 add-turn : tie.Need-add-turn Inv-loop μ-loop
 add-turn c =
@@ -116,8 +116,8 @@ loop-again c =
     (not-false _ (sym (w .6 .ensures .told) ∙ w .7 .left)))
     (w .8 ∙ left .0) (w .9 ∙ left .1) (w .10 ∙ left .2) (w .11 ∙ left .3) (w .12 ∙ left .4) (w .13) (w .14) (w .15))
     (λ w. search-same
-    (search-up (search-to (at .inv) (g .n) (at .inv .bounded) (omega arith) (λ i a b. low .none i a (omega (arith, w .0 .left)))) (at .k - 1) (w .8 .result) (omega (arith, w .1 .left)) (w .8 .ensures .0) (at .inv .from .whole) (w .11 .result) (omega arith) (w .11 .ensures))
-    (w .12) (w .13 ∙ w .8 .ensures .1) (w .14) (w .15 ∙ w .8 .ensures .2) (w .16) (w .17) (w .18) (w .19))
+    (search-up (search-to (at .inv) (g .n) (at .inv .bounded) (omega arith) (λ i a b. low .none i a (omega (arith, w .0 .left)))) (at .k - 1) (w .8 .result .0) (omega (arith, w .1 .left)) (w .8 .ensures .0) (at .inv .from .whole) (w .12 .result) (omega arith) (w .12 .ensures))
+    (w .13) (w .14 ∙ w .8 .ensures .1) (w .15) (w .16 ∙ w .8 .ensures .2) (w .17) (w .18) (w .19) (w .20))
     (c .if1 .came)
 
 returns-3 : tie.Need-returns-3 Inv-loop μ-loop
@@ -137,7 +137,7 @@ walk-spec =
     mul-loop
     first-requires
     enter-requires
-    add-t27
+    add-t29
     returns
     add-c
     returns-2

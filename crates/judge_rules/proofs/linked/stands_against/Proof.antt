@@ -1,4 +1,4 @@
--- The link is looked for only where b stands before a.
+-- The link is looked for only where the second operation stands before the first.
 use Prim.Native.Nat.{ℕ}
 use mathlib.Core.Path.{ap, _∙_}
 use lib.ListN.{getD}
@@ -50,7 +50,7 @@ returns c =
     let a = c .before .before .before .before .before .before .before .before .before .args in
     kept (c .before .before .before .before .before .before .before .before .before2 .ensures) (c .before .before .before .before .before .before .before .if1 .taken)
     (c .link .ensures
-    ∙ ap (λ (j : ℕ). linkBy (a .rule) (markAt (a .marks .now) (a .i) j) (getD (a .processors .now) (a .i) 0) (roleNumbered (getD (a .roles .now) (a .a) 0)) (roleNumbered (getD (a .roles .now) (a .b) 0)))
+    ∙ ap (λ (j : ℕ). linkBy (a .rule) (markAt (a .marks .now) (a .instruction .0) j) (getD (a .processors .now) (a .instruction .0) 0) (roleNumbered (getD (a .roles .now) (a .from .0) 0)) (roleNumbered (getD (a .roles .now) (a .to .0) 0)))
     (c .before .before .before .before .before .wide .ensures .0))
 
 returns-2 : tie.Need-returns-2
@@ -58,7 +58,7 @@ unfolding standsAgainst
 returns-2 c =
     let a = c .before .before .args in
     left-out
-    (linkBy (a .rule) (markAt (a .marks .now) (a .i) (getD (a .owners .now) (a .b) 0)) (getD (a .processors .now) (a .i) 0) (roleNumbered (getD (a .roles .now) (a .a) 0)) (roleNumbered (getD (a .roles .now) (a .b) 0)))
+    (linkBy (a .rule) (markAt (a .marks .now) (a .instruction .0) (getD (a .owners .now) (a .to .0) 0)) (getD (a .processors .now) (a .instruction .0) 0) (roleNumbered (getD (a .roles .now) (a .from .0) 0)) (roleNumbered (getD (a .roles .now) (a .to .0) 0)))
     (c .before .before2 .ensures) (c .if1 .left)
 
 pub stands-against-spec : {M : Type 1} → statement M

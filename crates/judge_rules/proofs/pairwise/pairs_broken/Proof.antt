@@ -1,17 +1,17 @@
 -- The instructions passed break nothing; the first that does decides.
 use Prim.Native.Nat.{_-_}
-use lib.ListN.{getD}
 use Rattle.base.specs.Below.{anyBelow}
 use Rattle.base.proofs.Tests.{NoneYet, seeks, passes-by, meets, finds-none}
 use Rattle.relation_marks.specs.Marks.{markAt}
 use Rattle.judge_rules.specs.Tests.{pairBroken, pairsBroken}
 use native.Mathlib.Omega.{arith}
 use borrow.Author.Needs.{needs}
+use Rattle.record_decoded.specs.Decoded.{instructionAt}
 use Rattle.judge_rules.proofs.pairwise.pairs_broken.Statement.{statement}
 use Rattle.judge_rules.proofs.pairwise.pairs_broken.Tie as tie
 
 abbrev Inv-loop : tie.InvT-loop
-Inv-loop rule is marks operations processors places n i₀ i = NoneYet (is .count) (λ k. anyBelow (is .count) (λ j. pairBroken places rule (markAt marks k j) operations processors (getD (is .firsts) k 0) (getD (is .firsts) j 0) (getD (is .processors) k 0) (getD (is .processors) j 0))) i
+Inv-loop rule is marks operations processors places n i₀ i = NoneYet (is .count) (λ k. anyBelow (is .count) (λ j. pairBroken places rule (markAt marks k j) operations processors (instructionAt is k) (instructionAt is j))) i
 
 abbrev μ-loop : tie.MeasureT-loop
 μ-loop rule is marks operations processors places n i₀ i = n - i

@@ -1,17 +1,18 @@
 -- The operations passed split nothing; the first that does decides.
-use Prim.Native.Nat.{_-_}
-use Rattle.base.proofs.Tests.{NoneYet, seeks, passes-by, meets, finds-none}
-use Rattle.judge_rules.specs.Tests.{releaseSplitBy, releaseSplit}
-use native.Mathlib.Omega.{arith}
 use borrow.Author.Needs.{needs}
+use Prim.Native.Nat.{_-_}
+use native.Mathlib.Omega.{arith}
+use Rattle.base.proofs.Tests.{NoneYet, seeks, passes-by, meets, finds-none}
+use Rattle.record_decoded.specs.Decoded.{instructionAt}
+use Rattle.judge_rules.specs.Tests.{releaseSplitBy, releaseSplit}
 use Rattle.judge_rules.proofs.pairwise.release_split.Statement.{statement}
 use Rattle.judge_rules.proofs.pairwise.release_split.Tie as tie
 
 abbrev Inv-loop : tie.InvT-loop
-Inv-loop places operations processors v o₀ o = NoneYet operations (releaseSplitBy places processors v) o
+Inv-loop places operations processors is v o₀ o = NoneYet operations (releaseSplitBy places processors (instructionAt is (v .0))) o
 
 abbrev μ-loop : tie.MeasureT-loop
-μ-loop places operations processors v o₀ o = operations - o
+μ-loop places operations processors is v o₀ o = operations - o
 
 loop-holds : tie.Need-loop-holds Inv-loop μ-loop
 loop-holds c = seeks

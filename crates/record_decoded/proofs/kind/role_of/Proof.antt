@@ -1,45 +1,49 @@
--- The places of R, of LV and the RVs, and of F.
-use mathlib.Core.Path.{sym, _∙_}
-use Prim.Native.Nat.{_-_}
-use Rattle.record_decoded.specs.Kinds.{meant}
-use Rattle.record_decoded.proofs.Counts.{store-first, store-later, load-only, fence-only, remote-numbered}
+-- One role before the RVs, then these.
 use borrow.Author.Needs.{needs}
+use Prim.Native.Nat.{ℕ, zero, suc, _+_, _-_, _<_, _≤_}
+use native.Mathlib.Omega.{arith}
+use mathlib.Core.Path.{_≡_, sym, ap, _∙_}
+use lib.ListN.{length, getD}
+use Rattle.model.specs.Execution as model
+use Rattle.model.specs.Execution.{Kind, F, kindRow, roles, remotesAt}
+use Rattle.model.proofs.Numbers.{one-alone, alone-role, remote-role}
+use Rattle.record_decoded.specs.Kinds.{meant, roleNumbered}
+use Rattle.record_decoded.proofs.RoleNumbers.{remote-numbered}
 use Rattle.record_decoded.proofs.kind.role_of.Statement.{statement}
 use Rattle.record_decoded.proofs.kind.role_of.Tie as tie
 
-is-store-requires : tie.Need-is-store-requires
-is-store-requires c κs = search needs
+alone : (p : ℕ) (k : Kind) (place r : ℕ) → roleNumbered r ≡ getD (kindRow k .alone) 0 F → place < remotesAt k → roleNumbered r ≡ getD (roles p k) place F
+alone p k zero r h l = h ∙ sym (alone-role p k 0 l)
+alone p k (suc place) r h l = absurd (omega (arith, one-alone k))
+
+remote : (p : ℕ) (k : Kind) (place before : ℕ) → before ≡ remotesAt k → before ≤ place → place < length (roles p k) → roleNumbered (3 + (place - before)) ≡ getD (roles p k) place F
+remote p k place before e l h =
+    remote-numbered (place - before) ∙ ap (λ (n : ℕ). model.RV (place - n)) e ∙ sym (remote-role p k place (omega arith) h)
+
+before-remotes-requires : tie.Need-before-remotes-requires
+before-remotes-requires c κs = search needs
+
+cast-before : tie.Need-cast-before
+cast-before c = search needs
+
+first-role-requires : tie.Need-first-role-requires
+first-role-requires c κs = search needs
 
 returns : tie.Need-returns
-returns c processors l = store-first processors (meant (c .before .before .before .args .k)) (c .before .before .before .args .place) (sym (c .before .before .is-store .ensures) ∙ c .before .if1 .taken) (c .if2 .taken)
-
-sub-q : tie.Need-sub-q
-sub-q c = search needs
+returns c processors l =
+    let s = c .before .before .before in
+    alone processors (meant (s .args .k)) (s .args .place) (c .first-role .result) (c .first-role .ensures)
+    (omega (arith, c .before .before .before-remotes .ensures .0))
 
 add-result : tie.Need-add-result
 add-result c = search needs
 
 returns-2 : tie.Need-returns-2
-returns-2 c processors l = remote-numbered (c .before .before .before .args .place - 1) ∙ store-later processors (meant (c .before .before .before .args .k)) (c .before .before .before .args .place) (sym (c .before .before .is-store .ensures) ∙ c .before .if1 .taken) (c .if2 .left) l
-
-is-load-requires : tie.Need-is-load-requires
-is-load-requires c κs = search needs
-
-returns-3 : tie.Need-returns-3
-returns-3 c processors l = load-only processors (meant (c .before .before .before .before .args .k)) (c .before .before .before .before .args .place) (sym (c .before .before .before .is-store .ensures) ∙ c .before .before .if1 .left) (sym (c .before .is-load .ensures) ∙ c .if3 .taken) l
-
-returns-4 : tie.Need-returns-4
-returns-4 c processors l = fence-only processors (meant (c .before .before .before .before .args .k)) (c .before .before .before .before .args .place) (sym (c .before .before .before .is-store .ensures) ∙ c .before .before .if1 .left) (sym (c .before .is-load .ensures) ∙ c .if3 .left) l
+returns-2 c processors l =
+    let s = c .before .before in
+    remote processors (meant (s .args .k)) (s .args .place) (c .before .before-remotes .result) (c .before .before-remotes .ensures .0) (omega arith) l
 
 pub role-of-spec : {M : Type 1} → statement M
 role-of-spec =
     tie.close
-    (tie.spec
-    is-store-requires
-    returns
-    sub-q
-    add-result
-    returns-2
-    is-load-requires
-    returns-3
-    returns-4)
+    (tie.spec before-remotes-requires cast-before first-role-requires returns add-result returns-2)

@@ -2,7 +2,7 @@
 use native.Mathlib.Omega.{arith}
 use mathlib.Core.Path.{_≡_, _∙_}
 use mathlib.Core.Bool.{_&&_}
-use Rattle.model.specs.Rules.{hasRoleLV}
+use Rattle.model.specs.Execution.{hasRoleLV}
 use Rattle.record_decoded.specs.Kinds.{roleNumbered}
 use borrow.Author.Needs.{needs}
 use Rattle.relation_links.proofs.RoleLaws.{same-local, same-remote}

@@ -11,11 +11,11 @@ use Rattle.relation_marks.proofs.between.marks_row.Statement.{statement
 use Rattle.relation_marks.proofs.between.marks_row.Tie as tie
 
 abbrev Inv-loop : tie.InvT-loop
-Inv-loop x n processors kinds addresses sizes first processor address size a of-a row₀ k₀ row k =
+Inv-loop x i n processors kinds addresses sizes first processor address size a of-a row₀ k₀ row k =
     (k ≤ n) × Entered 40 0 (λ j r. r ≡ marksBetween (executionOf x) (instructionAt (x .instructions) first) (instructionAt (x .instructions) j)) k row
 
 abbrev μ-loop : tie.MeasureT-loop
-μ-loop x n processors kinds addresses sizes first processor address size a of-a row₀ k₀ row k = n - k
+μ-loop x i n processors kinds addresses sizes first processor address size a of-a row₀ k₀ row k = n - k
 
 array-read-processor : tie.Need-array-read-processor Inv-loop μ-loop
 array-read-processor c = search needs

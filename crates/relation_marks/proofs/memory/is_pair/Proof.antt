@@ -12,7 +12,7 @@ use Rattle.relation_marks.proofs.memory.is_pair.Statement.{statement}
 use Rattle.relation_marks.proofs.memory.is_pair.Tie as tie
 
 abbrev Inv-loop : tie.InvT-loop
-Inv-loop earlier later n firsts seconds k₀ k = NoneYet n (λ i. eqb (getD firsts i 0) earlier && eqb (getD seconds i 0) later) k
+Inv-loop earlier later n firsts seconds k₀ k = NoneYet n (λ i. eqb (getD firsts i 0) (earlier .0) && eqb (getD seconds i 0) (later .0)) k
 
 abbrev μ-loop : tie.MeasureT-loop
 μ-loop earlier later n firsts seconds k₀ k = n - k
@@ -20,8 +20,8 @@ abbrev μ-loop : tie.MeasureT-loop
 returns : tie.Need-returns Inv-loop μ-loop
 returns c =
     let a = c .before .args in
-    finds-none (seeks {n = a .pairs .count} {p = λ i. eqb (getD (a .pairs .earlier) i 0) (a .earlier) && eqb (getD (a .pairs .later) i 0) (a .later)}) (omega (arith, c .if1 .taken))
-    ∙ pair-by-index (a .pairs) (a .earlier) (a .later)
+    finds-none (seeks {n = a .pairs .count} {p = λ i. eqb (getD (a .pairs .earlier) i 0) (a .earlier .0) && eqb (getD (a .pairs .later) i 0) (a .later .0)}) (omega (arith, c .if1 .taken))
+    ∙ pair-by-index (a .pairs) (a .earlier .0) (a .later .0)
 
 loop-holds : tie.Need-loop-holds Inv-loop μ-loop
 loop-holds c = seeks
@@ -43,11 +43,11 @@ both-requires c κs = search needs
 
 returns-2 : tie.Need-returns-2 Inv-loop μ-loop
 returns-2 c =
-    let b = c .before .before .before .before in
+    let b = c .before .before .before .before .before .before in
     let a = b .before .before .before .before .before .args in
     meets (b .before .loop .inv) (b .loop-test .taken)
-    (c .before .both .ensures ∙ ap₂ (λ j k. eqb j (a .earlier) && eqb k (a .later)) (c .before .before .before .wide .ensures .0) (c .before .before .wide2 .ensures .0)) (c .if2 .taken)
-    ∙ pair-by-index (a .pairs) (a .earlier) (a .later)
+    (c .before .both .ensures ∙ ap₂ (λ j k. eqb j (a .earlier .0) && eqb k (a .later .0)) (c .before .before .before .before .before .wide .ensures .0) (c .before .before .before .before .wide2 .ensures .0)) (c .if2 .taken)
+    ∙ pair-by-index (a .pairs) (a .earlier .0) (a .later .0)
 
 add-k : tie.Need-add-k Inv-loop μ-loop
 add-k c = search needs
@@ -57,15 +57,15 @@ loop-less c = omega arith
 
 loop-again : tie.Need-loop-again Inv-loop μ-loop
 loop-again c =
-    let b = c .before .before .before .before in
+    let b = c .before .before .before .before .before .before in
     let a = b .before .before .before .before .before .args in
     passes-by (b .before .loop .inv) (b .loop-test .taken)
-    (c .before .both .ensures ∙ ap₂ (λ j k. eqb j (a .earlier) && eqb k (a .later)) (c .before .before .before .wide .ensures .0) (c .before .before .wide2 .ensures .0)) (c .if2 .left)
+    (c .before .both .ensures ∙ ap₂ (λ j k. eqb j (a .earlier .0) && eqb k (a .later .0)) (c .before .before .before .before .before .wide .ensures .0) (c .before .before .before .before .wide2 .ensures .0)) (c .if2 .left)
 
 returns-3 : tie.Need-returns-3 Inv-loop μ-loop
 returns-3 c =
     let a = c .before .before .before .before .before .args in
-    finds-none (c .before .loop .inv) (c .loop-test .left) ∙ pair-by-index (a .pairs) (a .earlier) (a .later)
+    finds-none (c .before .loop .inv) (c .loop-test .left) ∙ pair-by-index (a .pairs) (a .earlier .0) (a .later .0)
 
 pub is-pair-spec : {M : Type 1} → statement M
 is-pair-spec =

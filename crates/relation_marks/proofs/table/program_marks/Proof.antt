@@ -9,11 +9,11 @@ use borrow.Author.Needs.{needs}
 use Rattle.relation_marks.proofs.table.program_marks.Statement.{statement}
 use Rattle.relation_marks.proofs.table.program_marks.Tie as tie
 
-kind-number-requires : tie.Need-kind-number-requires
-kind-number-requires c κs = search needs
+table-row-requires : tie.Need-table-row-requires
+table-row-requires c κs = search needs
 
-kind-number-requires-2 : tie.Need-kind-number-requires-2
-kind-number-requires-2 c κs = search needs
+table-column-requires : tie.Need-table-column-requires
+table-column-requires c κs = search needs
 
 mul-result : tie.Need-mul-result
 mul-result c = search needs
@@ -29,15 +29,15 @@ index-2-result c = search needs
 
 returns : tie.Need-returns
 returns c =
-    ap₂ (λ (j k : ℕ). getD (getD programOrder j []) k 0) (c .before .before .kind-number .ensures .0) (c .before .kind-number2 .ensures .1)
+    ap₂ (λ (j k : ℕ). getD (getD programOrder j []) k 0) (c .before .before .table-row .ensures .0) (c .before .table-column .ensures .0)
     ∙ program-order (meant (c .before .before .before .args .earlier)) (meant (c .before .before .before .args .later))
 
 pub program-marks-spec : {M : Type 1} → statement M
 program-marks-spec =
     tie.close
     (tie.spec
-    kind-number-requires
-    kind-number-requires-2
+    table-row-requires
+    table-column-requires
     mul-result
     mul-result-2
     index-1-result

@@ -1,46 +1,45 @@
 -- An LV, neither, and an RV.
-use Rattle.search_rows.proofs.RowLaws.{word-LV, word-none, word-RV}
 use borrow.Author.Needs.{needs}
+use mathlib.Core.Path.{_∙_}
+use Rattle.search_rows.proofs.RowLaws.{word-LV, word-none, word-RV}
 use Rattle.search_rows.proofs.row.word_of.Statement.{statement}
 use Rattle.search_rows.proofs.row.word_of.Tie as tie
 
-mul-result : tie.Need-mul-result
-mul-result c = search needs
-
-add-result : tie.Need-add-result
-add-result c = search needs
-
-add-result-2 : tie.Need-add-result-2
-add-result-2 c = search needs
+own-at-requires : tie.Need-own-at-requires
+own-at-requires c κs = search needs
 
 returns : tie.Need-returns
-returns c = word-LV (c .before .args .role) (c .before .args .processor) (c .before .args .line) (c .if1 .taken)
+returns c w =
+    let a = c .before .before .args in
+    c .own-at .ensures .0 ∙ word-LV (a .role) (a .processor) (a .line) (c .before .if1 .taken) w
+
+sub-result : tie.Need-sub-result
+sub-result c = search needs
 
 returns-2 : tie.Need-returns-2
-returns-2 c = word-none (c .before .before .args .role) (c .before .before .args .processor) (c .before .before .args .line) (c .before .if1 .left) (c .if2 .taken)
+returns-2 c =
+    let a = c .before .before .args in
+    word-none (a .role) (a .processor) (a .line) (c .before .if1 .left) (c .if2 .taken)
 
 wide-requires : tie.Need-wide-requires
 wide-requires c κs = search needs
 
-mul-result-2 : tie.Need-mul-result-2
-mul-result-2 c = search needs
-
-add-result-3 : tie.Need-add-result-3
-add-result-3 c = search needs
+visible-at-requires : tie.Need-visible-at-requires
+visible-at-requires c κs = search needs
 
 returns-3 : tie.Need-returns-3
-returns-3 c = word-RV (c .before .before .before .args .role) (c .before .before .before .args .processor) (c .before .before .before .args .line) (c .before .before .if1 .left) (c .wide .ensures .0)
+returns-3 c w =
+    let a = c .before .before .before .before .args in
+    c .visible-at .ensures .0 ∙ word-RV (a .role) (a .processor) (a .line) (c .before .before .before .if1 .left) (c .before .wide .ensures .0) w
 
 pub word-of-spec : {M : Type 1} → statement M
 word-of-spec =
     tie.close
     (tie.spec
-    mul-result
-    add-result
-    add-result-2
+    own-at-requires
     returns
+    sub-result
     returns-2
     wide-requires
-    mul-result-2
-    add-result-3
+    visible-at-requires
     returns-3)

@@ -10,16 +10,16 @@ use Rattle.search_rows.proofs.table.put_row.Statement.{statement}
 use Rattle.search_rows.proofs.table.put_row.Tie as tie
 
 abbrev Inv-loop : tie.InvT-loop
-Inv-loop rows₀ o row at f₀ rows f = (f ≤ 17) × (at + 17 ≤ 2304) × (length rows₀ ≡ 2304) × Put rows₀ row at f rows
+Inv-loop rows₀ row at f₀ rows f = (f ≤ 17) × (at + 17 ≤ 2304) × (length rows₀ ≡ 2304) × Put rows₀ row at f rows
 
 abbrev μ-loop : tie.MeasureT-loop
-μ-loop rows₀ o row at f₀ rows f = 17 - f
+μ-loop rows₀ row at f₀ rows f = 17 - f
 
 mul-at : tie.Need-mul-at Inv-loop μ-loop
 mul-at c = search needs
 
 loop-holds : tie.Need-loop-holds Inv-loop μ-loop
-loop-holds c = (omega arith, omega (arith, c .pre .0), c .pre .1, put-none)
+loop-holds c = (omega arith, omega (arith, c .before .pre .0), c .before .pre .1, put-none)
 
 mul-rows : tie.Need-mul-rows Inv-loop μ-loop
 mul-rows c = search needs
