@@ -6,3 +6,4 @@ pub mod Buffer
 pub mod Calls
 pub mod Whole
 pub mod Next
+pub mod NextRow

@@ -1,6 +1,4 @@
 -- The walk gives the next consistent prefix.
-use mathlib.Core.Path.{_≡_}
-use mathlib.Core.Bool.{true}
 use Rattle.model.specs.Execution.{Execution}
 use Rattle.model.specs.Rules.{rules, consistent}
 use Rattle.model.proofs.Accepted.{read-accepted}
@@ -15,7 +13,7 @@ unfolding consistent
 consistent-closed e xs x h = keeps-shorter xs x (rules e) h
 
 pub next-prefix : NextPrefix
-next-prefix bytes x read t marks rows means xs consists r position places levels words replaced walked =
-    walked .means (consistent (executionOf x))
-    (tested {t = record { execution = x; operations = t; marks = marks; rows = rows }} means (read-accepted bytes (executionOf x) read))
-    (consistent-closed (executionOf x)) consists
+next-prefix bytes x t marks rows xs r position places levels words replaced from =
+    from .walked .means (consistent (executionOf x))
+    (tested {t = record { execution = x; operations = t; marks = marks; rows = rows }} (from .rows-mean) (read-accepted bytes (executionOf x) (from .accepted)))
+    (consistent-closed (executionOf x)) (from .consists)

@@ -13,13 +13,19 @@ use Rattle.search_admit.specs.Rows.{RowsMean}
 use Rattle.search_walk.specs.declared.WalkAnswer.{WalkAnswer}
 use Rattle.search_walk.specs.Walks.{Means, Walked}
 
--- For an accepted record, its rows and a consistent prefix xs, whatever keeps the walk's contract from xs gives the next consistent prefix of that execution in
--- lexicographic order, or says that none comes after xs.
+-- From xs, a consistent prefix of an accepted record's execution, the walk's contract is kept over the rows of that execution: r is the answer, and the lists
+-- behind it are what the walk leaves.
+pub record WalkedFrom (bytes : List ℕ) (x : Execution) (t : Operations) (marks : List (List ℕ)) (rows xs : List ℕ) (r : WalkAnswer)
+    (position places levels words replaced : List ℕ) : Type 0 where
+  pub accepted : readAll bytes ≡ says (executionOf x)
+  pub rows-mean : RowsMean x t marks rows
+  pub consists : consistent (executionOf x) xs ≡ true
+  pub walked : Walked (operations (executionOf x)) rows xs r position places levels words replaced
+
+-- Wherever that is so, the answer gives the next consistent prefix of that execution in lexicographic order, or says that none comes after xs.
 abbrev pub NextPrefix : Type 0
 NextPrefix =
-    (bytes : List ℕ) (x : Execution) → readAll bytes ≡ says (executionOf x)
-    → (t : Operations) (marks : List (List ℕ)) (rows : List ℕ) → RowsMean x t marks rows
-    → (xs : List ℕ) → consistent (executionOf x) xs ≡ true
-    → (r : WalkAnswer) (position places levels words replaced : List ℕ)
-    → Walked (operations (executionOf x)) rows xs r position places levels words replaced
+    (bytes : List ℕ) (x : Execution) (t : Operations) (marks : List (List ℕ)) (rows xs : List ℕ) (r : WalkAnswer)
+    → (position places levels words replaced : List ℕ)
+    → WalkedFrom bytes x t marks rows xs r position places levels words replaced
     → Means (consistent (executionOf x)) (operations (executionOf x)) xs r position
