@@ -20,20 +20,20 @@ use Rattle.model.specs.Accepted.{Consecutive}
 module _ (p : ℕ) (k : Kind) where
   pub store-count : isStore k ≡ true → length (roles p k) ≡ remotesAt k + p
   unfolding roles remotesAt below
-  store-count h = rw h (omega (arith, length-append (kindRow k .alone) (map RV (below p)), length-map (below p) RV, length-count 0 p))
+  store-count h = rw h (omega (arith, length-append (kindRow k .beforeRemotes) (map RV (below p)), length-map (below p) RV, length-count 0 p))
 
   pub other-count : isStore k ≡ false → length (roles p k) ≡ remotesAt k
   unfolding roles remotesAt
-  other-count h = rw h (ap length (append-nil (kindRow k .alone)))
+  other-count h = rw h (ap length (append-nil (kindRow k .beforeRemotes)))
 
   behind : isStore k ≡ true → (q : ℕ) → q < p → getD (roles p k) (remotesAt k + q) F ≡ RV q
   unfolding roles remotesAt
-  behind t q l = rw t (getD-append-add (kindRow k .alone) (map RV (below p)) q F ∙ getD-below RV F p q l)
+  behind t q l = rw t (getD-append-add (kindRow k .beforeRemotes) (map RV (below p)) q F ∙ getD-below RV F p q l)
 
   module _ (place : ℕ) where
-    pub alone-role : place < remotesAt k → getD (roles p k) place F ≡ getD (kindRow k .alone) place F
+    pub role-before-remotes : place < remotesAt k → getD (roles p k) place F ≡ getD (kindRow k .beforeRemotes) place F
     unfolding roles remotesAt
-    alone-role l = List·getD-append (kindRow k .alone) (cond (isStore k) (map RV (below p)) []) F place l
+    role-before-remotes l = List·getD-append (kindRow k .beforeRemotes) (cond (isStore k) (map RV (below p)) []) F place l
 
     pub remote-role : remotesAt k ≤ place → place < length (roles p k) → getD (roles p k) place F ≡ RV (place - remotesAt k)
     remote-role l h =
@@ -46,7 +46,7 @@ module _ (p : ℕ) (k : Kind) where
 
 -- the role at a place of a kind's list of roles has that place
 
-first-place : (k : Kind) → rolePlace k (getD (kindRow k .alone) 0 F) ≡ 0
+first-place : (k : Kind) → rolePlace k (getD (kindRow k .beforeRemotes) 0 F) ≡ 0
 unfolding placeAmong
 first-place ld = refl
 first-place ld-acq = refl
@@ -55,13 +55,13 @@ first-place st-rel = refl
 first-place mf = refl
 
 -- before the RVs each kind gives one operation
-pub one-alone : (k : Kind) → remotesAt k ≡ 1
+pub one-before-remotes : (k : Kind) → remotesAt k ≡ 1
 unfolding remotesAt
-one-alone ld = refl
-one-alone ld-acq = refl
-one-alone st = refl
-one-alone st-rel = refl
-one-alone mf = refl
+one-before-remotes ld = refl
+one-before-remotes ld-acq = refl
+one-before-remotes st = refl
+one-before-remotes st-rel = refl
+one-before-remotes mf = refl
 
 -- the places of R, of F and of LV, which is the last before the RVs
 pub R-place : (k : Kind) → rolePlace k R ≡ 0
@@ -88,15 +88,15 @@ LV-place st = refl
 LV-place st-rel = refl
 LV-place mf = refl
 
-alone-place : (k : Kind) (place : ℕ) → place < remotesAt k → rolePlace k (getD (kindRow k .alone) place F) ≡ place
-alone-place k zero l = first-place k
-alone-place k (suc place) l = absurd (omega (arith, one-alone k))
+place-before-remotes : (k : Kind) (place : ℕ) → place < remotesAt k → rolePlace k (getD (kindRow k .beforeRemotes) place F) ≡ place
+place-before-remotes k zero l = first-place k
+place-before-remotes k (suc place) l = absurd (omega (arith, one-before-remotes k))
 
 module _ (p : ℕ) where
   pub role-place : (k : Kind) (place : ℕ) → place < length (roles p k) → rolePlace k (getD (roles p k) place F) ≡ place
   role-place k place l =
       split (ltb place (remotesAt k))
-      (λ t. ap (rolePlace k) (alone-role p k place (ltb-true place (remotesAt k) t)) ∙ alone-place k place (ltb-true place (remotesAt k) t))
+      (λ t. ap (rolePlace k) (role-before-remotes p k place (ltb-true place (remotesAt k) t)) ∙ place-before-remotes k place (ltb-true place (remotesAt k) t))
       (λ f. ap (rolePlace k) (remote-role p k place (omega (arith, ltb-false place (remotesAt k) f)) l) ∙ omega (arith, ltb-false place (remotesAt k) f))
 
   pub role-number : (i : Instruction) (place : ℕ) → place < length (roles p (i .kind)) → numberOf i (getD (roles p (i .kind)) place F) ≡ i .first + place

@@ -20,13 +20,13 @@ module _ (p : ℕ) where
   hasRole k (RV q) = isStore k && ltb q p
 
   -- its operations before the RVs have such roles
-  alone-roles : (k : Kind) → all (hasRole k) (kindRow k .alone) ≡ true
+  roles-before-remotes : (k : Kind) → all (hasRole k) (kindRow k .beforeRemotes) ≡ true
   unfolding all
-  alone-roles ld = refl
-  alone-roles ld-acq = refl
-  alone-roles st = refl
-  alone-roles st-rel = refl
-  alone-roles mf = refl
+  roles-before-remotes ld = refl
+  roles-before-remotes ld-acq = refl
+  roles-before-remotes st = refl
+  roles-before-remotes st-rel = refl
+  roles-before-remotes mf = refl
 
   remote-roles : (k : Kind) {r : Role} → List·Memᴰ r (cond (isStore k) (map RV (below p)) []) → hasRole k r ≡ true
   remote-roles k {r} m = split (isStore k) (λ t. of-remote t (rw t at m)) (λ f. absurd (List·Memᴰ·not-nil (rw f at m)))
@@ -36,7 +36,7 @@ module _ (p : ℕ) where
 
   pub of-roles : (k : Kind) {r : Role} → List·Memᴰ r (roles p k) → hasRole k r ≡ true
   unfolding roles
-  of-roles k m = ⊎-elim (λ n. all-member (hasRole k) n (alone-roles k)) (remote-roles k) (List·Memᴰ·append-cases (kindRow k .alone) m)
+  of-roles k m = ⊎-elim (λ n. all-member (hasRole k) n (roles-before-remotes k)) (remote-roles k) (List·Memᴰ·append-cases (kindRow k .beforeRemotes) m)
 
   -- what follows for a role
   pub R-load : (k : Kind) → List·Memᴰ R (roles p k) → isLoad k ≡ true
@@ -52,14 +52,14 @@ module _ (p : ℕ) where
   RV-few q k m = ltb-true q p (and-parts (isStore k) (ltb q p) (of-roles k m) .1)
 
   -- a kind has all of its roles
-  alone : (k : Kind) {r : Role} → List·Memᴰ r (kindRow k .alone) → List·Memᴰ r (roles p k)
+  before-remotes : (k : Kind) {r : Role} → List·Memᴰ r (kindRow k .beforeRemotes) → List·Memᴰ r (roles p k)
   unfolding roles
-  alone k m = Memᴰ·append-left (cond (isStore k) (map RV (below p)) []) m
+  before-remotes k m = Memᴰ·append-left (cond (isStore k) (map RV (below p)) []) m
 
   pub R-role : (k : Kind) → isLoad k ≡ true → List·Memᴰ R (roles p k)
-  R-role k h = alone k (go k h)
+  R-role k h = before-remotes k (go k h)
     where
-      go : (k : Kind) → isLoad k ≡ true → List·Memᴰ R (kindRow k .alone)
+      go : (k : Kind) → isLoad k ≡ true → List·Memᴰ R (kindRow k .beforeRemotes)
       go ld h = List·Memᴰ·head refl
       go ld-acq h = List·Memᴰ·head refl
       go st h = absurd (false≢true h)
@@ -67,9 +67,9 @@ module _ (p : ℕ) where
       go mf h = absurd (false≢true h)
 
   pub LV-role : (k : Kind) → isStore k ≡ true → List·Memᴰ LV (roles p k)
-  LV-role k h = alone k (go k h)
+  LV-role k h = before-remotes k (go k h)
     where
-      go : (k : Kind) → isStore k ≡ true → List·Memᴰ LV (kindRow k .alone)
+      go : (k : Kind) → isStore k ≡ true → List·Memᴰ LV (kindRow k .beforeRemotes)
       go ld h = absurd (false≢true h)
       go ld-acq h = absurd (false≢true h)
       go st h = List·Memᴰ·head refl
@@ -78,7 +78,7 @@ module _ (p : ℕ) where
 
   pub RV-role : (k : Kind) (q : ℕ) → q < p → isStore k ≡ true → List·Memᴰ (RV q) (roles p k)
   unfolding roles
-  RV-role k q l h = rw h (Memᴰ·append-right (kindRow k .alone) (Memᴰ·map RV (in-below p q l)))
+  RV-role k q l h = rw h (Memᴰ·append-right (kindRow k .beforeRemotes) (Memᴰ·map RV (in-below p q l)))
 
 -- a fence neither loads nor stores
 pub load-no-fence : (k : Kind) → isLoad k ≡ true → isFence k ≡ false

@@ -53,12 +53,12 @@ pub record KindRow : Type 0 where
   pub fences : Bool
   pub row : ℕ
   pub column : ℕ
-  pub alone : List Role
+  pub beforeRemotes : List Role
 
 abbrev kindDoes : Bool → Bool → Bool → Bool → Bool → ℕ → ℕ → List Role → KindRow
-kindDoes r w a l f i j os = record { reads = r; writes = w; acquires = a; releases = l; fences = f; row = i; column = j; alone = os }
+kindDoes r w a l f i j os = record { reads = r; writes = w; acquires = a; releases = l; fences = f; row = i; column = j; beforeRemotes = os }
 
--- a kind a row: load, store, acquires, releases, fence, row, column, operations
+-- one row for each kind: load, store, acquires, releases, fence, row, column, operations before the RVs
 abbrev pub kindRow : Kind → KindRow
 kindRow ld = kindDoes true false false false false 0 0 (R ∷ [])
 kindRow ld-acq = kindDoes true false true false false 1 1 (R ∷ [])
@@ -123,7 +123,7 @@ pub record Execution : Type 0 where
 
 -- the operations that an instruction gives with P processors, in the order of their numbers: a load gives R; a store gives LV, then RV_0 to RV_(P-1); an mf gives F
 unfoldable pub roles : ℕ → Kind → List Role
-roles p k = kindRow k .alone ++ cond (isStore k) (map RV (below p)) []
+roles p k = kindRow k .beforeRemotes ++ cond (isStore k) (map RV (below p)) []
 
 -- the number of operations of some instructions with P processors
 unfoldable pub operationCount : ℕ → List Instruction → ℕ
@@ -136,7 +136,7 @@ operations e = operationCount (e .processors) (e .instructions)
 
 -- how many operations a kind gives before the RVs: the place of RV_0
 unfoldable pub remotesAt : Kind → ℕ
-remotesAt k = length (kindRow k .alone)
+remotesAt k = length (kindRow k .beforeRemotes)
 
 -- the place of the first role that passes a test; 0 where none does
 unfoldable pub placeAmong : (Role → Bool) → List Role → ℕ
@@ -145,9 +145,9 @@ placeAmong t (r ∷ rs) = cond (t r) 0 (cond (any t rs) (suc (placeAmong t rs)) 
 
 -- the place of a role in a kind's list of roles
 abbrev pub rolePlace : Kind → Role → ℕ
-rolePlace k R = placeAmong hasRoleR (kindRow k .alone)
-rolePlace k LV = placeAmong hasRoleLV (kindRow k .alone)
-rolePlace k F = placeAmong hasRoleF (kindRow k .alone)
+rolePlace k R = placeAmong hasRoleR (kindRow k .beforeRemotes)
+rolePlace k LV = placeAmong hasRoleLV (kindRow k .beforeRemotes)
+rolePlace k F = placeAmong hasRoleF (kindRow k .beforeRemotes)
 rolePlace k (RV q) = remotesAt k + q
 
 -- the number of an operation: that of its instruction's first operation plus the place of its role

@@ -1,4 +1,4 @@
--- What a kind's row holds, and the number of operations.
+-- Bounds of a kind's row and column of the table of program-order rules; the number of operations.
 use Prim.Native.Nat.{ℕ, _<_}
 use native.Mathlib.Omega.{arith}
 use mathlib.Core.Path.{_≡_}

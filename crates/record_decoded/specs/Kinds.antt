@@ -11,6 +11,7 @@ use Rattle.record_decoded.specs.declared.kind.Role.the-variants.{R, LV, 
 use Rattle.record_decoded.specs.declared.kind.Attribute.{Attribute}
 use Rattle.record_decoded.specs.declared.kind.Attribute.the-variants.{WB, UC, WC}
 
+-- a kind of the code as that of the model
 abbrev pub meant : Kind → model.Kind
 meant Ld = model.ld
 meant LdAcq = model.ld-acq
@@ -35,9 +36,10 @@ pub record RowNumber (n : ℕ) (r : model.KindRow) : Type 0 where
   pub fences-is : eqb (n / 16 % 2) 1 ≡ r .fences
   pub row-is : n % 256 / 32 ≡ r .row
   pub column-is : n % 2048 / 256 ≡ r .column
-  pub before-is : n % 8192 / 2048 ≡ length (r .alone)
-  pub first-is : roleNumbered (n / 8192) ≡ getD (r .alone) 0 model.F
+  pub before-is : n % 8192 / 2048 ≡ length (r .beforeRemotes)
+  pub first-is : roleNumbered (n / 8192) ≡ getD (r .beforeRemotes) 0 model.F
 
+-- a role of the code as that of the model
 abbrev pub roleMeant : Role → model.Role
 roleMeant R = model.R
 roleMeant LV = model.LV
@@ -51,6 +53,7 @@ roleProcessor LV = 0
 roleProcessor F = 0
 roleProcessor (RV q) = q
 
+-- an attribute of the code as that of the model
 abbrev pub attributeMeant : Attribute → model.Attribute
 attributeMeant WB = model.WB
 attributeMeant UC = model.UC

@@ -28,7 +28,7 @@ pub fn kind_of(k: u8) -> Kind
     }
 }
 
-// The kind of the highest number.
+// The highest number of a kind.
 pub const LAST_KIND: u8 = 4;
 
 // The roles of operations as numbers in arrays; RV_q is ROLE_RV + q.
@@ -149,7 +149,7 @@ pub enum Role {
 // The number of an instruction's operation, by that of its first one, its kind and the role. R and F are the first, LV is the last before the RVs.
 pub fn number_of(first: OperationNo, k: Kind, role: Role) -> OperationNo
     requires { ⌜ (first .0 < 65536) × (roleProcessor role < 65536) ⌝ }
-    ensures { λ r. ⌜ (r .0 ≡ numberFrom (first .0) (meant k) (roleMeant role)) × (r .0 < 200000) ⌝ }
+    ensures { λ r. ⌜ r .0 ≡ numberFrom (first .0) (meant k) (roleMeant role) ⌝ }
 {
     let at = first.0;
     match role {
@@ -168,7 +168,7 @@ pub fn number_of(first: OperationNo, k: Kind, role: Role) -> OperationNo
 
 // The role of the first operation that a kind gives.
 fn first_role(k: Kind) -> u8
-    ensures { λ r. ⌜ roleNumbered r ≡ getD (kindRow (meant k) .alone) 0 F ⌝ }
+    ensures { λ r. ⌜ roleNumbered r ≡ getD (kindRow (meant k) .beforeRemotes) 0 F ⌝ }
 {
     (kind_row(k) / FIRST_ROLE) as u8
 }

@@ -15,7 +15,7 @@ use crate::types::wide16;
 // The number of an instruction's operation with a role.
 pub fn number_at(is: Instructions, i: InstructionNo, role: Role) -> OperationNo
     requires { ⌜ (i .0 < 40) × (roleProcessor role < 65536) ⌝ }
-    ensures { λ r. ⌜ (r .0 ≡ numberOf (instructionAt is (i .0)) (roleMeant role)) × (r .0 < 200000) ⌝ }
+    ensures { λ r. ⌜ r .0 ≡ numberOf (instructionAt is (i .0)) (roleMeant role) ⌝ }
 {
     let at = i.0;
     let firsts = is.firsts;

@@ -11,7 +11,7 @@ use Rattle.base.proofs.Bools.{split}
 use Rattle.base.proofs.Lists.{map-below-more}
 use Rattle.model.specs.Execution as model
 use Rattle.model.specs.Execution.{kindOf, isStore, roles, operationCount}
-use Rattle.model.proofs.Numbers.{count-more, one-alone, store-count, other-count}
+use Rattle.model.proofs.Numbers.{count-more, one-before-remotes, store-count, other-count}
 use Rattle.model.specs.Questions.{instructionOf}
 use Rattle.record_decoded.specs.declared.types.Instructions.{Instructions}
 use Rattle.record_decoded.specs.Decoded.{eight, instructionAt, instructionsOf}
@@ -22,7 +22,7 @@ use Rattle.record_decoded.proofs.Items.{item-first, item-byte}
 
 pub few-roles : (p : ℕ) (k : model.Kind) → p ≤ 8 → length (roles p k) ≤ 9
 few-roles p k h =
-    split (isStore k) (λ e. omega (arith, one-alone k, store-count p k e)) (λ e. omega (arith, one-alone k, other-count p k e))
+    split (isStore k) (λ e. omega (arith, one-before-remotes k, store-count p k e)) (λ e. omega (arith, one-before-remotes k, other-count p k e))
 
 -- the lengths of the arrays
 pub record Sized (x : Instructions) : Type 0 where

@@ -135,8 +135,7 @@ abbrev pub writes : ℕ → Bool
 writes role = eqb role 1 || leb 3 role
 
 -- The operation for which one with a role may have to wait because of an instruction, by the marks of the two: of a conflicting store the RV to the same
--- processor, for an R the own RV of a UC store. The instruction is given by its
--- kind, the number of its first operation and its processor.
+-- processor, for an R the own RV of a UC store. The instruction is given by its kind, the number of its first operation and its processor.
 unfoldable pub awaitedBy : ℕ → ℕ → Kind → ℕ → ℕ → ℕ → Bool
 awaitedBy marks role kind first processor a =
     cond (eqb role 0) (hasMark marks bypassMark && eqb a (numberFrom first kind (RV processor)))

@@ -12,7 +12,7 @@ use Rattle.base.proofs.Bools.{agree, split, clash, is-false, and-parts, and-bot
 use Rattle.model.specs.Execution.{Kind, isStore, Role, F, RV, hasRoleRV, roles, remotesAt, numberFrom}
 use Rattle.record_decoded.specs.Kinds.{roleNumbered}
 use Rattle.record_decoded.proofs.RoleNumbers.{role-RV, remote-numbered}
-use Rattle.model.proofs.Numbers.{one-alone, store-count, other-count, remote-role}
+use Rattle.model.proofs.Numbers.{one-before-remotes, store-count, other-count, remote-role}
 use Rattle.relation_marks.specs.Marks.{hasMark}
 use Rattle.relation_links.specs.Links.{ruleMark, rolesLink, linkBy}
 use Rattle.relation_links.specs.Linked.{linkedBy}
@@ -178,7 +178,7 @@ module _ (m p first n role a : ℕ) (k : Kind) where
   linkedAs r = linkedBy m p r (roleNumbered role)
 
   some-role : 0 < length (roles n k)
-  some-role = split (isStore k) (λ t. omega (arith, one-alone k, store-count n k t)) (λ f. omega (arith, one-alone k, other-count n k f))
+  some-role = split (isStore k) (λ t. omega (arith, one-before-remotes k, store-count n k t)) (λ f. omega (arith, one-before-remotes k, other-count n k f))
 
   pub no-links : ((j : ℕ) (r : Role) → linkedBy m j r (roleNumbered role) ≡ false) → linkedFrom m k p first n role a ≡ false
   unfolding linkedFrom
@@ -210,7 +210,7 @@ module _ (m p first n role a : ℕ) (k : Kind) where
       (λ f. is-false (linkedFrom m k p first n role a)
       (λ u. let (u1, u2) = and-parts (leb first a) (ltb a (first + length (roles n k)) && linkedAs (getD (roles n k) (a - first) F)) u in
       let (u3, u4) = and-parts (ltb a (first + length (roles n k))) (linkedAs (getD (roles n k) (a - first) F)) u2 in
-      eqb-false a first f (omega (arith, leb-true first a u1, ltb-true a (first + length (roles n k)) u3, one-alone k, other-count n k s)))
+      eqb-false a first f (omega (arith, leb-true first a u1, ltb-true a (first + length (roles n k)) u3, one-before-remotes k, other-count n k s)))
       ∙ sym (elsewhere f))
 
   no-remote-first : a ≡ first → remoteLinked m k p first n role a ≡ false
@@ -218,7 +218,7 @@ module _ (m p first n role a : ℕ) (k : Kind) where
   no-remote-first e =
       is-false _ (λ t. let (q, l, h) = some-at _ n t in
       let at = eqb-true a (numberFrom first k (RV q)) (and-parts (eqb a (numberFrom first k (RV q))) (linkedAs (RV q)) h .0) in
-      omega (arith, one-alone k))
+      omega (arith, one-before-remotes k))
 
   past-first : isStore k ≡ true → (a ≡ first → ⊥) → linkedFrom m k p first n role a ≡ remoteLinked m k p first n role a
   unfolding linkedFrom remoteLinked
@@ -228,8 +228,8 @@ module _ (m p first n role a : ℕ) (k : Kind) where
       let l = leb-true first a t1 in
       let h = ltb-true a (first + length (roles n k)) t3 in
       let q = a - first - remotesAt k in
-      any-passes _ n q (omega (arith, store-count n k s, one-alone k, f))
-      (and-both (eq-eqb a (numberFrom first k (RV q)) (omega (arith, one-alone k, f))) (ap linkedAs (sym (at-place q (omega (arith, one-alone k, f)) h)) ∙ t4)))
+      any-passes _ n q (omega (arith, store-count n k s, one-before-remotes k, f))
+      (and-both (eq-eqb a (numberFrom first k (RV q)) (omega (arith, one-before-remotes k, f))) (ap linkedAs (sym (at-place q (omega (arith, one-before-remotes k, f)) h)) ∙ t4)))
       (λ t. let (q, l, h) = some-at _ n t in
       let (h1, h2) = and-parts (eqb a (numberFrom first k (RV q))) (linkedAs (RV q)) h in
       let e = eqb-true a (numberFrom first k (RV q)) h1 in

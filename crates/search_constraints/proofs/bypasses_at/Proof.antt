@@ -92,7 +92,7 @@ loop-again c =
           (λ a l. c .insert-if .ensures a l
           ∙ ap₂ (λ (b : Bool) (k : ℕ). holds (s .lo) (s .hi) a || (b && eqb a k))
           (c .before .before .before .before .before .stores-to-line .ensures ∙ ap (λ (k : Kind). isStore k && (eqb (getD (g .processors .now) v 0) (getD (g .processors .now) (g .w .0) 0) && eqb (getD (g .addresses .now) v 0 / 8) (getD (g .addresses .now) (g .w .0) 0 / 8))) kind)
-          (c .before .number-of .ensures .0 ∙ own-number kind (c .before .before .before .wide16 .ensures .0) (c .before .before .wide .ensures .0))),
+          (c .before .number-of .ensures ∙ own-number kind (c .before .before .before .wide16 .ensures .0) (c .before .before .wide .ensures .0))),
     )
 
 returns-2 : tie.Need-returns-2 Inv-loop μ-loop

@@ -19,7 +19,7 @@ returns : tie.Need-returns
 returns c = λ k l.
     let a = c .before .before .before .before .args in
     awaited-R (a .set .lo) (a .set .hi) (a .marks) (a .role) (meant (a .kind)) (a .first .0) (a .processor) k
-    (c .before .before .before .if1 .taken) (c .before .before .number-of .ensures .0) (c .before .has-mark .ensures) (c .insert-if .ensures k l)
+    (c .before .before .before .if1 .taken) (c .before .before .number-of .ensures) (c .before .has-mark .ensures) (c .insert-if .ensures k l)
 
 returns-2 : tie.Need-returns-2
 returns-2 c = λ k l.
@@ -42,7 +42,7 @@ returns-3 : tie.Need-returns-3
 returns-3 c = λ k l.
     let a = c .before .before .before .before .before .before .args in
     awaited-RV (a .set .lo) (a .set .hi) (a .marks) (a .role) (meant (a .kind)) (a .first .0) (a .processor) k
-    (c .before .before .before .before .before .if1 .left) (c .before .before .before .before .if2 .left) (c .before .before .before .wide .ensures .0) (c .before .before .number-of2 .ensures .0) (c .before .has-mark2 .ensures) (c .insert-if2 .ensures k l)
+    (c .before .before .before .before .before .if1 .left) (c .before .before .before .before .if2 .left) (c .before .before .before .wide .ensures .0) (c .before .before .number-of2 .ensures) (c .before .has-mark2 .ensures) (c .insert-if2 .ensures k l)
 
 pub with-awaited-spec : {M : Type 1} → statement M
 with-awaited-spec =

@@ -42,7 +42,7 @@ loop-again c =
     let m = c .before .before .before .loop .more in (
       omega (arith, c .before .before .loop-test .taken),
       grown-more (c .before .before .before .loop .inv .1) _
-          (λ a l. c .insert-if .ensures a l ∙ ap (λ (rv : ℕ). holds (m .lo) (m .hi) a || eqb a rv) (c .before .number-of .ensures .0)),
+          (λ a l. c .insert-if .ensures a l ∙ ap (λ (rv : ℕ). holds (m .lo) (m .hi) a || eqb a rv) (c .before .number-of .ensures)),
     )
 
 returns : tie.Need-returns Inv-loop μ-loop

@@ -74,7 +74,7 @@ returns-3 c = λ a l.
     (sym (c .before .before .before .before .before .before .before .before .before .before .before .before .before .has-mark .ensures) ∙ c .before .before .before .before .before .before .before .before .before .before .before .before .if1 .left)
     (c .before .before .before .before .before .before .before .before .before .before .before .if2 .left) refl
     (c .before .before .before .before .before .before .before .before .before .before .wide .ensures .0) (c .before .before .before .before .wide2 .ensures .0)
-    (c .before .before .before .before .before .before .before .number-of .ensures .0) (c .before .before .before .number-of2 .ensures .0)
+    (c .before .before .before .before .before .before .before .number-of .ensures) (c .before .before .before .number-of2 .ensures)
     (c .before .before .before .before .before .before .before .before .before .has-mark2 .ensures) (c .before .before .before .before .before .before .before .before .both .ensures)
     (c .before .before .before .before .before .before .both2 .ensures) (c .before .before .has-mark3 .ensures) (c .before .both3 .ensures))
 

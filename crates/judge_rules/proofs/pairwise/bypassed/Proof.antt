@@ -29,9 +29,9 @@ returns : tie.Need-returns
 unfolding bypassed
 returns c =
     let is-before = beforeBy (c .before .before .before .before .before .before .args .places .now) in
-    let reads = c .before .before .before .before .before .number-at .ensures .0 in
+    let reads = c .before .before .before .before .before .number-at .ensures in
     c .both .ensures
-    ∙ ap₂ _&&_ (c .before .before .before .before2 .ensures ∙ ap₂ is-before (c .before .before .before .before .number-at2 .ensures .0) reads)
+    ∙ ap₂ _&&_ (c .before .before .before .before2 .ensures ∙ ap₂ is-before (c .before .before .before .before .number-at2 .ensures) reads)
     (c .before .before3 .ensures ∙ ap₂ is-before reads (c .before .before .own-no .ensures))
 
 pub bypassed-spec : {M : Type 1} → statement M

@@ -48,7 +48,7 @@ returns c =
     c .both2 .ensures
     ∙ ap (λ (t : Bool). eqb (getD (a .is .processors) (a .v .0) 0) (getD (a .is .processors) (a .w .0) 0) && t)
     (c .before .both .ensures
-    ∙ ap₂ _&&_ (c .before .before .before .before .before .before2 .ensures ∙ ap₂ is-before (c .before .before .before .before .before .before .before .number-at .ensures .0) (c .before .before .before .before .before .before .number-at2 .ensures .0))
+    ∙ ap₂ _&&_ (c .before .before .before .before .before .before2 .ensures ∙ ap₂ is-before (c .before .before .before .before .before .before .before .number-at .ensures) (c .before .before .before .before .before .before .number-at2 .ensures))
     (c .before .before .before3 .ensures ∙ ap₂ is-before (c .before .before .before .before .own-no .ensures) (c .before .before .before .own-no2 .ensures)))
 
 pub own-turned-spec : {M : Type 1} → statement M

@@ -34,7 +34,7 @@ returns : tie.Need-returns Inv-loop μ-loop
 unfolding remoteBefore
 returns c =
     meets (c .before .before .before .before .before .loop .inv) (c .before .before .before .before .loop-test .taken)
-    (c .before .before2 .ensures ∙ ap₂ (beforeBy (c .before .before .before .before .before .before .args .places .now)) (c .before .before .before .number-at .ensures .0) (c .before .before .number-at2 .ensures .0)) (c .if1 .taken)
+    (c .before .before2 .ensures ∙ ap₂ (beforeBy (c .before .before .before .before .before .before .args .places .now)) (c .before .before .before .number-at .ensures) (c .before .before .number-at2 .ensures)) (c .if1 .taken)
 
 add-q : tie.Need-add-q Inv-loop μ-loop
 add-q c = search needs
@@ -45,7 +45,7 @@ loop-less c = omega arith
 loop-again : tie.Need-loop-again Inv-loop μ-loop
 loop-again c =
     passes-by (c .before .before .before .before .before .loop .inv) (c .before .before .before .before .loop-test .taken)
-    (c .before .before2 .ensures ∙ ap₂ (beforeBy (c .before .before .before .before .before .before .args .places .now)) (c .before .before .before .number-at .ensures .0) (c .before .before .number-at2 .ensures .0)) (c .if1 .left)
+    (c .before .before2 .ensures ∙ ap₂ (beforeBy (c .before .before .before .before .before .before .args .places .now)) (c .before .before .before .number-at .ensures) (c .before .before .number-at2 .ensures)) (c .if1 .left)
 
 returns-2 : tie.Need-returns-2 Inv-loop μ-loop
 unfolding remoteBefore

@@ -30,7 +30,7 @@ number-at-requires c κs = search needs
 
 returns : tie.Need-returns Inv-loop μ-loop
 unfolding releaseSplitBy
-returns c = splitting-own (c .before .before .before .before .loop .inv) _ (c .before .before .before .loop-test .taken) (ap (λ (k : ℕ). eqb k (c .before .before .before .before .before .args .operation .0)) (c .before .before .number-at .ensures .0)) (eq-eqb _ _ (c .if1 .taken))
+returns c = splitting-own (c .before .before .before .before .loop .inv) _ (c .before .before .before .loop-test .taken) (ap (λ (k : ℕ). eqb k (c .before .before .before .before .before .args .operation .0)) (c .before .before .number-at .ensures)) (eq-eqb _ _ (c .if1 .taken))
 
 before-requires : tie.Need-before-requires Inv-loop μ-loop
 before-requires c κs = search needs
@@ -53,7 +53,7 @@ loop-less c = omega arith
 loop-again : tie.Need-loop-again Inv-loop μ-loop
 loop-again c =
     let a = c .before .before .before .before .before .before .before .before .before .args in
-    let number = c .before .before .before .before .before .before .number-at .ensures .0 in
+    let number = c .before .before .before .before .before .before .number-at .ensures in
     splitting-turns (c .before .before .before .before .before .before .before .before .loop .inv) (c .before .before .before .before .before .before .before .loop-test .taken) (ap (λ (k : ℕ). eqb k (a .operation .0)) number) (ne-eqb _ _ (c .before .before .before .before .if1 .left))
     (c .before .before .either .ensures ∙ ap (λ (t : Bool). c .before .before .before .before .before .before .before .before .loop .after || t) (c .before .before .before .before2 .ensures ∙ ap (λ (k : ℕ). beforeBy (a .places .now) k (a .operation .0)) number))
     (c .either2 .ensures ∙ ap (λ (t : Bool). c .before .before .before .before .before .before .before .before .loop .ahead || t) (c .before .before3 .ensures ∙ ap (beforeBy (a .places .now) (a .operation .0)) number))

@@ -50,25 +50,20 @@ add-t10 c =
 returns : tie.Need-returns
 returns c =
     let s = c .before .before in
-    (rw (c .enum-told .given .1) (omega (arith, R-place (meant (s .args .k)))), omega (arith, s .pre .0))
+    rw (c .enum-told .given .1) (omega (arith, R-place (meant (s .args .k))))
 
 returns-2 : tie.Need-returns-2
 returns-2 c =
     let s = c .before .before .before in
-    let b = c .before-remotes .ensures in
-    (rw (c .before .enum-told2 .given .1) (omega (arith, b .0, LV-place (meant (s .args .k)))), omega (arith, b .2, s .pre .0))
+    rw (c .before .enum-told2 .given .1) (omega (arith, c .before-remotes .ensures .0, LV-place (meant (s .args .k))))
 
 returns-3 : tie.Need-returns-3
 returns-3 c =
     let s = c .before .before in
-    (rw (c .enum-told3 .given .1) (omega (arith, F-place (meant (s .args .k)))), omega (arith, s .pre .0))
+    rw (c .enum-told3 .given .1) (omega (arith, F-place (meant (s .args .k))))
 
 returns-4 : tie.Need-returns-4
-returns-4 c =
-    let s = c .before .before .before .before in
-    let b = c .before-remotes2 .ensures in
-    let few = bounded (s .args .role) (c .before .before .role .given .0 .0) (c .before .before .role .given .1) (s .pre .1) in
-    (rw (c .before .before .role .given .1) (omega (arith, b .0)), omega (arith, b .2, s .pre .0))
+returns-4 c = rw (c .before .before .role .given .1) (omega (arith, c .before-remotes2 .ensures .0))
 
 pub number-of-spec : {M : Type 1} → statement M
 number-of-spec =

@@ -6,15 +6,15 @@ use mathlib.Core.Path.{_≡_, sym, ap, _∙_}
 use lib.ListN.{length, getD}
 use Rattle.model.specs.Execution as model
 use Rattle.model.specs.Execution.{Kind, F, kindRow, roles, remotesAt}
-use Rattle.model.proofs.Numbers.{one-alone, alone-role, remote-role}
+use Rattle.model.proofs.Numbers.{one-before-remotes, role-before-remotes, remote-role}
 use Rattle.record_decoded.specs.Kinds.{meant, roleNumbered}
 use Rattle.record_decoded.proofs.RoleNumbers.{remote-numbered}
 use Rattle.record_decoded.proofs.kind.role_of.Statement.{statement}
 use Rattle.record_decoded.proofs.kind.role_of.Tie as tie
 
-alone : (p : ℕ) (k : Kind) (place r : ℕ) → roleNumbered r ≡ getD (kindRow k .alone) 0 F → place < remotesAt k → roleNumbered r ≡ getD (roles p k) place F
-alone p k zero r h l = h ∙ sym (alone-role p k 0 l)
-alone p k (suc place) r h l = absurd (omega (arith, one-alone k))
+role-before : (p : ℕ) (k : Kind) (place r : ℕ) → roleNumbered r ≡ getD (kindRow k .beforeRemotes) 0 F → place < remotesAt k → roleNumbered r ≡ getD (roles p k) place F
+role-before p k zero r h l = h ∙ sym (role-before-remotes p k 0 l)
+role-before p k (suc place) r h l = absurd (omega (arith, one-before-remotes k))
 
 remote : (p : ℕ) (k : Kind) (place before : ℕ) → before ≡ remotesAt k → before ≤ place → place < length (roles p k) → roleNumbered (3 + (place - before)) ≡ getD (roles p k) place F
 remote p k place before e l h =
@@ -32,7 +32,7 @@ first-role-requires c κs = search needs
 returns : tie.Need-returns
 returns c processors l =
     let s = c .before .before .before in
-    alone processors (meant (s .args .k)) (s .args .place) (c .first-role .result) (c .first-role .ensures)
+    role-before processors (meant (s .args .k)) (s .args .place) (c .first-role .result) (c .first-role .ensures)
     (omega (arith, c .before .before .before-remotes .ensures .0))
 
 add-result : tie.Need-add-result

@@ -30,8 +30,7 @@ returns : tie.Need-returns
 unfolding instructionAt
 returns c =
     let role = roleMeant (c .before .before .before .before .before .args .role) in
-    let (number, few) = c .number-of .ensures in
-    (number ∙ ap₂ (λ (first : ℕ) (kind : Kind). numberFrom first kind role) (c .before .before .wide16 .ensures .0) (c .before .kind-of .ensures), few)
+    c .number-of .ensures ∙ ap₂ (λ (first : ℕ) (kind : Kind). numberFrom first kind role) (c .before .before .wide16 .ensures .0) (c .before .kind-of .ensures)
 
 pub number-at-spec : {M : Type 1} → statement M
 number-at-spec =

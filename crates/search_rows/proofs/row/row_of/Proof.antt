@@ -164,7 +164,7 @@ returns c =
     (λ i l. c .before .before .before .before .before .before .before .before .before .before .before .before .before .bits-from .ensures i l ∙ covers-by (g .x) w address size i) (λ i l. c .before .before .before .before .before .before .before .before .before .before .before .before .data-from .ensures i l ∙ data-by (g .x) w address size (lent .bytes-are) i)
     (c .before .before .before .before .before .before .before .before .before .before .before .is-writing .result) (c .before .before .before .before .before .before .before .before .before .before .before .is-writing .ensures)
     (c .before .before .before .before .before .before .before .before .before .before .wanted .ensures) (c .before .before .before .before .before .before .before .before .before .wanted2 .ensures) (c .before .before .before .before .before .before .before .before .word-of .ensures) (c .before .before .before .before .before .before .before .wanted3 .ensures) (c .before .before .before .before .before .before .wanted4 .ensures) (c .before .before .before .before .before .visible-at .ensures .0) (c .before .before .before .before .own-at .ensures .0)
-    (c .before .before .before .number-of .result .0) (c .before .before .number-of2 .result .0) (c .before .before .before .number-of .ensures .0) (c .before .before .number-of2 .ensures .0)
+    (c .before .before .before .number-of .result .0) (c .before .before .number-of2 .result .0) (c .before .before .before .number-of .ensures) (c .before .before .number-of2 .ensures)
     (c .before .number-or-own .ensures) (c .number-or-own2 .ensures)
 
 pub row-of-spec : {M : Type 1} → statement M
