@@ -183,8 +183,7 @@ accepted bytes e rest h =
     step (readPairs is b4) _ e rest h4 (λ pairs b5 e5 h5.
     step (question15 b5) _ e rest h5 (λ u6 b6 e6 h6.
     step (readPrograms p (length lines) 0 p [] b3) _ is b4 e4 (λ js b7 e7 h7.
-    step (ask 10 _ b7) _ is b4 h7 (λ u8 b8 e8 h8.
-    step (ask 11 _ b8) _ is b4 h8 (λ u9 b9 e9 h9.
+    step (ask 11 _ b7) _ is b4 h7 (λ u8 b8 e8 h8.
     let z : record { processors = p; lines = lines; instructions = is; pairs = pairs } ≡ e = cc in
     let w : js ≡ is = cc in
     let (inv, short) = programs-keep p (length lines) 0 p [] b3 js b7 (omega arith) (tt, tt) (omega arith) e7 in
@@ -195,12 +194,12 @@ accepted bytes e rest h =
       lines-some = counted .0;
       lines-few = counted .1;
       instructions-few = subst (λ (l : List Instruction). length l ≤ 40) w short;
-      operations-few = subst (λ (l : List Instruction). operationCount p l ≤ 128) w (leb-true (operationCount p js) 128 (asked 11 (leb (operationCount p js) 128) b8 u9 b9 e9));
+      operations-few = subst (λ (l : List Instruction). operationCount p l ≤ 128) w (leb-true (operationCount p js) 128 (asked 11 (leb (operationCount p js) 128) b7 u8 b8 e8));
       pairs-few = pairs-counted is b4 pairs b5 e5;
       consecutive = subst (Consecutive p 0 0) w (inv .0);
       sound = subst (Each (Sound p (length lines))) w (inv .1);
       rising = pairs-rise is b4 pairs b5 e5;
-    }))))))))))
+    })))))))))
 
 -- The reader's answer
 

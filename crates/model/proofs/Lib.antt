@@ -9,4 +9,5 @@ pub mod ProgramOrder
 pub mod Accepted
 pub mod Numbers
 pub mod Roles
+pub mod Empty
 pub mod Quoted

@@ -1,4 +1,4 @@
--- Document 01 as definitions, in its order; then tables of examples.
+-- Documents 01 and 02 as definitions, in their order; then tables of examples.
 pub mod Execution
 pub mod Questions
 pub mod Rules
@@ -14,4 +14,5 @@ pub mod Notation
 pub mod Rows
 pub mod PaperTable
 pub mod RuleTable
+pub mod RequestTable
 pub mod QuestionTable

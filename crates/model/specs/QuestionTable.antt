@@ -4,8 +4,10 @@ use mathlib.Core.List.{List, [], _∷_, _++_, map}
 use lib.ListN.{take, drop, replicate}
 use Rattle.base.specs.Lists.{for, below}
 use Rattle.model.specs.Notation.{x, wb, uc, wc, zeros, ld, st, mf, entry, recordOf}
-use Rattle.model.specs.Rows.{Row, judged-no, searched-no, tabled-no, cut}
+use Rattle.model.specs.Calls.{legal}
+use Rattle.model.specs.Rows.{Row, judged, judged-no, searched-no, tabled-no, cut}
 use Rattle.model.specs.PaperTable.{k1, k2, k11-pair}
+use Rattle.model.specs.RequestTable.{nothing}
 
 -- the record is refused with this number
 abbrev refused : List ℕ → ℕ → Row
@@ -78,8 +80,9 @@ questionTable =
     ∷ refused (only (0 ∷ 0 ∷ 1 ∷ 5 ∷ 0 ∷ 0 ∷ 0 ∷ 0 ∷ 0 ∷ 0 ∷ 1 ∷ [])) 9
     ∷ refused (only (entry 4 0 0 1)) 9
     ∷ passes (only (2 ∷ 0 ∷ 8 ∷ 1 ∷ 2 ∷ 3 ∷ 4 ∷ 5 ∷ 6 ∷ 7 ∷ 8 ∷ []))
-    -- 10: an instruction
-    ∷ refused (programs ([] ∷ [] ∷ [])) 10
+    -- 10 is not asked: a record with no instruction passes, and so does its empty order; where it ends before the count of pairs, question 1 refuses it
+    ∷ judged nothing [] legal
+    ∷ cut nothing 1
     -- 11: 128 operations
     ∷ passes (eight 14 0)
     ∷ refused (eight 15 0) 11
@@ -106,6 +109,7 @@ questionTable =
     -- 16: N entries
     ∷ judged-no k1 (0 ∷ 1 ∷ []) 16
     ∷ judged-no k1 (0 ∷ 1 ∷ 2 ∷ 3 ∷ []) 16
+    ∷ judged-no nothing (0 ∷ []) 16
     -- 17: below N, and different
     ∷ judged-no k1 (0 ∷ 1 ∷ 3 ∷ []) 17
     ∷ judged-no k1 (0 ∷ 1 ∷ 0 ∷ []) 17
@@ -114,6 +118,8 @@ questionTable =
     -- 19: a saved length of at most N
     ∷ searched-no k2 (0 ∷ 0 ∷ 9 ∷ 9 ∷ []) 4 19
     ∷ searched-no k2 (0 ∷ 0 ∷ 9 ∷ []) 4 19
+    ∷ searched-no nothing [] 1 19
+    ∷ searched-no nothing (0 ∷ []) 1 19
     -- 20: the saved entries below N, and different
     ∷ searched-no k2 (2 ∷ 2 ∷ 9 ∷ []) 2 20
     ∷ searched-no k2 (2 ∷ 3 ∷ 9 ∷ []) 2 20

@@ -92,11 +92,9 @@ question8 lines k size address =
 unfoldable pub question9 : ℕ → List ℕ → Bool
 question9 size bytes = all (eqb 0) (drop size bytes)
 
--- 10: after the last program: is there any instruction?
-unfoldable pub question10 : List Instruction → Bool
-question10 is = leb 1 (length is)
+-- 10 is not asked: document 02, P2, accepts a record with no instruction. The number stays unused.
 
--- 11: is N at most 128?
+-- 11, after the last program: is N at most 128?
 unfoldable pub question11 : ℕ → Bool
 question11 n = leb n 128
 
@@ -192,7 +190,6 @@ readPrograms processors lines p (suc left) done = do
 unfoldable pub readInstructions : ℕ → ℕ → Reader (List Instruction)
 readInstructions processors lines = do
   is ← readPrograms processors lines 0 processors []
-  ask 10 (question10 is)
   ask 11 (question11 (operationCount processors is))
   pure is
 

@@ -8,7 +8,7 @@ use lib.ListN.{length, getD, drop, length-drop}
 use lib.Seq.{drop-drop}
 use borrow.Author.Tests.{le-leb, lt-leb}
 use Rattle.model.specs.Execution.{Instruction, operationCount}
-use Rattle.model.specs.Questions.{Found, no-to, next, ask, many, question5, question10, question11, readInstruction, readProgram, readPrograms, readInstructions, pure, _>>_}
+use Rattle.model.specs.Questions.{Found, no-to, next, ask, many, question5, question11, readInstruction, readProgram, readPrograms, readInstructions, pure, _>>_}
 use Rattle.record_decoded.specs.declared.types.Step.{Step}
 use Rattle.record_decoded.specs.declared.types.Step.the-variants.{Refused, Next}
 use Rattle.record_decoded.specs.declared.types.Instructions.{Instructions}
@@ -87,36 +87,31 @@ module _ {processors lines p at : ℕ} {part : List ℕ} {done : List Instructio
     within = λ k e. let z : at ≡ k = cc in omega (arith, inv .room);
   }
 
--- the questions after the last program
+-- question 11, after the last program
 module _ (processors lines : ℕ) (part : List ℕ) {step : Step} {value : List Instruction}
     (walked : ComesTo (readPrograms processors lines 0 processors [] part) part step value) where
   after : readInstructions processors lines part
-      ≡ next (foundBy part step value) (λ is. _>>_ (ask 10 (question10 is)) (_>>_ (ask 11 (question11 (operationCount processors is))) (pure is)))
+      ≡ next (foundBy part step value) (λ is. _>>_ (ask 11 (question11 (operationCount processors is))) (pure is))
   unfolding readInstructions
-  after = ap (λ (f : Found (List Instruction)). next f (λ is. _>>_ (ask 10 (question10 is)) (_>>_ (ask 11 (question11 (operationCount processors is))) (pure is)))) (walked .is)
+  after = ap (λ (f : Found (List Instruction)). next f (λ is. _>>_ (ask 11 (question11 (operationCount processors is))) (pure is))) (walked .is)
 
   pub instructions-fail : {q : ℕ} → step ≡ Refused q → readInstructions processors lines part ≡ no-to q
   unfolding next
-  instructions-fail {q} e = after ∙ ap (λ (t : Step). next (foundBy part t value) (λ is. _>>_ (ask 10 (question10 is)) (_>>_ (ask 11 (question11 (operationCount processors is))) (pure is)))) e
+  instructions-fail {q} e = after ∙ ap (λ (t : Step). next (foundBy part t value) (λ is. _>>_ (ask 11 (question11 (operationCount processors is))) (pure is))) e
 
   module _ {k : ℕ} (e : step ≡ Next k) where
     programs-come : readInstructions processors lines part
-        ≡ _>>_ (ask 10 (question10 value)) (_>>_ (ask 11 (question11 (operationCount processors value))) (pure value)) (drop k part)
+        ≡ _>>_ (ask 11 (question11 (operationCount processors value))) (pure value) (drop k part)
     unfolding next
-    programs-come = after ∙ ap (λ (t : Step). next (foundBy part t value) (λ is. _>>_ (ask 10 (question10 is)) (_>>_ (ask 11 (question11 (operationCount processors is))) (pure is)))) e
+    programs-come = after ∙ ap (λ (t : Step). next (foundBy part t value) (λ is. _>>_ (ask 11 (question11 (operationCount processors is))) (pure is))) e
 
-    pub instructions-none : length value < 1 → readInstructions processors lines part ≡ no-to 10
-    unfolding next ask question10
-    instructions-none h = programs-come ∙ rw (lt-leb 1 (length value) h)
+    pub instructions-many : 128 < operationCount processors value → readInstructions processors lines part ≡ no-to 11
+    unfolding next ask question11
+    instructions-many h = programs-come ∙ rw (lt-leb (operationCount processors value) 128 h)
 
-    module _ (some : 1 ≤ length value) where
-      pub instructions-many : 128 < operationCount processors value → readInstructions processors lines part ≡ no-to 11
-      unfolding next ask question10 question11
-      instructions-many h = programs-come ∙ rw (le-leb 1 (length value) some, lt-leb (operationCount processors value) 128 h)
-
-      pub instructions-read : operationCount processors value ≤ 128 → ComesTo (readInstructions processors lines part) part (Next k) value
-      unfolding next ask question10 question11
-      instructions-read h = record {
-        is = programs-come ∙ rw (le-leb 1 (length value) some, le-leb (operationCount processors value) 128 h);
-        within = λ j f. walked .within j (e ∙ f);
-      }
+    pub instructions-read : operationCount processors value ≤ 128 → ComesTo (readInstructions processors lines part) part (Next k) value
+    unfolding next ask question11
+    instructions-read h = record {
+      is = programs-come ∙ rw (le-leb (operationCount processors value) 128 h);
+      within = λ j f. walked .within j (e ∙ f);
+    }

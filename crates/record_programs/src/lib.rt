@@ -252,7 +252,7 @@ fn read_programs(part: &[u8], lines: usize, processors: usize) -> InstructionsRe
     }
 }
 
-// The programs, and the questions after the last.
+// The programs, and question 11 after the last.
 pub fn read_instructions(part: &[u8], lines: usize, processors: usize) -> InstructionsRead
     requires { ⌜ (lines ≤ 8) × (processors ≤ 8) ⌝ }
     ensures { λ r. ⌜ InstructionsComeTo processors (readInstructions processors lines (now (part .entry))) (now (part .entry)) (r .step) (r .instructions) ⌝ }
@@ -266,12 +266,6 @@ pub fn read_instructions(part: &[u8], lines: usize, processors: usize) -> Instru
             instructions,
         },
         Step::Next(at) => {
-            if instructions.count < 1 {
-                return InstructionsRead {
-                    step: Step::Refused(10),
-                    instructions,
-                };
-            }
             if Position::LIMIT < instructions.operations {
                 return InstructionsRead {
                     step: Step::Refused(11),

@@ -1,8 +1,7 @@
--- The programs, then questions 10 and 11.
+-- The programs, then question 11.
 use native.Mathlib.Omega.{arith}
-use Rattle.record_decoded.proofs.Arrays.{instructions-length}
 use Rattle.record_decoded.proofs.Items.{refused-walk}
-use Rattle.record_programs.proofs.ProgramLaws.{instructions-fail, instructions-none, instructions-many, instructions-read}
+use Rattle.record_programs.proofs.ProgramLaws.{instructions-fail, instructions-many, instructions-read}
 use borrow.Author.Needs.{needs}
 use Rattle.record_programs.proofs.read_instructions.Statement.{statement}
 use Rattle.record_programs.proofs.read_instructions.Tie as tie
@@ -20,39 +19,26 @@ returns : tie.Need-returns
 returns c =
     let a = c .before .before .before .before .before .before .before .before .args in
     let w = c .before .before .before .before .before .before .read-programs .ensures in
-    let n = instructions-length (c .before .before .before .before .before .before .read-programs .result .instructions) in
     record {
-      walked = refused-walk (instructions-none (a .processors) (a .lines) (a .part .now) (w .walked) (c .before .before .before .step2 .given .1) (omega arith));
+      walked = refused-walk (instructions-many (a .processors) (a .lines) (a .part .now) (w .walked) (c .before .before .before .step2 .given .1) (omega (arith, w .counts .counted)));
       counts = w .counts;
     }
 
 returns-2 : tie.Need-returns-2
 returns-2 c =
-    let a = c .before .before .before .before .before .before .before .before .before .before .args in
-    let w = c .before .before .before .before .before .before .before .before .read-programs .ensures in
-    let n = instructions-length (c .before .before .before .before .before .before .before .before .read-programs .result .instructions) in
-    record {
-      walked = refused-walk (instructions-many (a .processors) (a .lines) (a .part .now) (w .walked) (c .before .before .before .before .before .step2 .given .1) (omega arith) (omega (arith, w .counts .counted)));
-      counts = w .counts;
-    }
-
-returns-3 : tie.Need-returns-3
-returns-3 c =
     let a = c .before .before .before .before .before .before .args in
     let w = c .before .before .before .before .read-programs .ensures in
-    let n = instructions-length (c .before .before .before .before .read-programs .result .instructions) in
     record {
       walked = refused-walk (instructions-fail (a .processors) (a .lines) (a .part .now) (w .walked) (c .before .step .given .1));
       counts = w .counts;
     }
 
-returns-4 : tie.Need-returns-4
-returns-4 c =
-    let a = c .before .before .before .before .before .before .before .before .before .before .args in
-    let w = c .before .before .before .before .before .before .before .before .read-programs .ensures in
-    let n = instructions-length (c .before .before .before .before .before .before .before .before .read-programs .result .instructions) in
+returns-3 : tie.Need-returns-3
+returns-3 c =
+    let a = c .before .before .before .before .before .before .before .before .args in
+    let w = c .before .before .before .before .before .before .read-programs .ensures in
     record {
-      walked = instructions-read (a .processors) (a .lines) (a .part .now) (w .walked) (c .before .before .before .before .before .step2 .given .1) (omega arith) (omega (arith, w .counts .counted));
+      walked = instructions-read (a .processors) (a .lines) (a .part .now) (w .walked) (c .before .before .before .step2 .given .1) (omega (arith, w .counts .counted));
       counts = w .counts;
     }
 
@@ -65,5 +51,4 @@ read-instructions-spec =
     enum-known-step-2
     returns
     returns-2
-    returns-3
-    returns-4)
+    returns-3)
