@@ -1,10 +1,33 @@
-//! Each proved call beside the independent one: both are asked, and must answer alike.
+//! Each proved call, and the verdict program, beside the independent one: both are asked, and must answer alike.
 
 use crate::proved;
 use crate::proved::{Judgement, Verdict};
+use crate::reference::record::{self, MAX_OPERATIONS};
 use crate::reference::rules::{self, JudgeAnswer};
 use crate::reference::search::{SearchAnswer, SearchReply};
-use crate::reference::{chains, fast};
+use crate::reference::{self, chains, fast};
+use std::io::Write;
+use std::path::Path;
+use std::process::{Command, Stdio};
+use std::thread::sleep;
+use std::time::Duration;
+
+/// What both readers say of a record.
+pub fn check(bytes: &[u8]) -> Result<(), u8> {
+    let expected = record::read(bytes).map(|_| ());
+    let answer = proved::check(bytes);
+    assert_eq!(answer, expected, "record {bytes:?}");
+    answer
+}
+
+/// N by the proved library, of a record that passes: the shortest buffer that its search takes (question 18).
+pub fn proved_operation_count(bytes: &[u8]) -> usize {
+    let lengths: Vec<usize> = (0..=MAX_OPERATIONS).collect();
+    lengths.partition_point(|&length| {
+        let reply = proved::search(bytes, &mut vec![0; length], 0, 0);
+        reply.answer == Err(18)
+    })
+}
 
 /// What the proved judge says, in the reference's words.
 pub fn proved_judge(bytes: &[u8], order: &[u8]) -> JudgeAnswer {
@@ -63,4 +86,39 @@ pub fn search(bytes: &[u8], buffer: &mut [u8], saved: usize, allowance: u32) -> 
         "record {bytes:?} from {saved}, {allowance} steps"
     );
     reply
+}
+
+/// What the verdict program, as it is built, writes for these pieces of its input, with a pause before each but the first.
+pub fn verdict_program(pieces: &[&[u8]]) -> String {
+    let program = Path::new(env!("CARGO_MANIFEST_DIR")).join("../target/bin/oglindesh");
+    assert!(
+        program.exists(),
+        "{} is missing: run `rt check oglindesh` in the repository",
+        program.display()
+    );
+    let mut child = Command::new(&program)
+        .stdin(Stdio::piped())
+        .stdout(Stdio::piped())
+        .spawn()
+        .expect("the verdict program starts");
+    let mut input = child.stdin.take().expect("its input is a pipe");
+    for (index, piece) in pieces.iter().enumerate() {
+        if index > 0 {
+            sleep(Duration::from_millis(20));
+        }
+        // The program may have read all it takes, and be gone.
+        let _ = input.write_all(piece);
+    }
+    drop(input);
+    let output = child.wait_with_output().expect("the verdict program ends");
+    assert!(output.status.success());
+    String::from_utf8(output.stdout).expect("the lines are ASCII")
+}
+
+/// What the verdict program writes for an input, which is what document 01 has it print.
+pub fn verdict(input: &[u8]) -> String {
+    let printed = verdict_program(&[input]);
+    let expected = reference::verdict::verdict(input);
+    assert_eq!(printed, expected, "input {input:?}");
+    printed
 }

@@ -5,6 +5,7 @@ use crate::reference::notation::access;
 use crate::reference::record::{
     is_dependence, Attribute, Execution, Instruction, Kind, Line, Role, INSTRUCTION_ITEM,
     LINE_ITEM, LINE_SIZE, MAX_INSTRUCTIONS, MAX_LINES, MAX_OPERATIONS, MAX_PAIRS, MAX_PROCESSORS,
+    QUESTIONS,
 };
 use crate::reference::rules::{byte_read, lowest_broken, Settled};
 
@@ -45,7 +46,10 @@ impl Shape {
 /// Most operations for which a random order is tried out to give the loads their values.
 const MAX_TRIED: usize = 24;
 
-/// A well-formed execution within the shape. Both allowed and forbidden ones are frequent.
+/// One execution in so many has no instruction.
+const EMPTY_ONE_IN: usize = 10;
+
+/// A well-formed execution within the shape. Both allowed and forbidden ones are frequent; some have no instruction.
 pub fn execution(random: &mut Random, shape: &Shape) -> Execution {
     let processors = random.between(1, shape.processors);
     let lines = lines(random, shape.lines);
@@ -72,13 +76,16 @@ fn lines(random: &mut Random, most: usize) -> Vec<Line> {
     (0..count).map(line).collect()
 }
 
-/// Instructions as long as their operations fit, in the order of their processors.
+/// No instruction, or instructions as long as their operations fit, in the order of their processors.
 fn instructions(
     random: &mut Random,
     shape: &Shape,
     processors: usize,
     lines: usize,
 ) -> Vec<Instruction> {
+    if random.once_in(EMPTY_ONE_IN) {
+        return Vec::new();
+    }
     let most = shape.instructions;
     let wanted = random.between(1, most).max(random.between(1, most));
     let mut room = shape.operations;
@@ -267,14 +274,18 @@ pub fn damaged(random: &mut Random, execution: &Execution) -> Vec<u8> {
     bytes
 }
 
-/// A record whose first 'no' is this question, from 1 to 15.
+/// A record whose first 'no' is this question of [`QUESTIONS`].
 pub fn failing(random: &mut Random, question: u8) -> Vec<u8> {
+    assert!(
+        QUESTIONS.contains(&question),
+        "no record fails question {question}"
+    );
     loop {
         let execution = execution(random, &Shape::SMALL);
         let failing = match question {
             1..=5 => Some(fail_count(random, &execution, question)),
             6..=9 => fail_instruction(random, &execution, question),
-            10..=11 => Some(fail_programs(random, execution, question)),
+            11 => Some(fail_operation_count(random, execution)),
             12..=14 => fail_pairs(random, execution, question),
             _ => Some(lengthened(random, &execution)),
         };
@@ -339,8 +350,11 @@ fn fail_count(random: &mut Random, execution: &Execution, question: u8) -> Vec<u
     bytes
 }
 
-/// Questions 6 to 9; none if the instruction chosen has no byte that question 9 is about.
+/// Questions 6 to 9; none if there is no instruction, or the one chosen has no byte that question 9 is about.
 fn fail_instruction(random: &mut Random, execution: &Execution, question: u8) -> Option<Vec<u8>> {
+    if execution.instructions.is_empty() {
+        return None;
+    }
     let number = random.below(execution.instructions.len());
     let Instruction { kind, size, .. } = execution.instructions[number];
     let fence = kind == Kind::Fence;
@@ -374,23 +388,18 @@ fn fail_instruction(random: &mut Random, execution: &Execution, question: u8) ->
     Some(bytes)
 }
 
-/// Questions 10 and 11: no instruction, or over 128 operations. What follows is any bytes.
-fn fail_programs(random: &mut Random, execution: Execution, question: u8) -> Vec<u8> {
-    let lines = execution.lines;
-    let failing = if question == 10 {
-        Execution::new(execution.processors, lines, Vec::new(), Vec::new())
-    } else {
-        // With fewer than three processors 40 stores stay below the limit.
-        let processors = random.between(3, MAX_PROCESSORS);
-        let stores = MAX_OPERATIONS / (1 + processors) + 1;
-        let store = |_| Instruction {
-            processor: random.below(processors),
-            ..access(Kind::Store, 0, &[1])
-        };
-        let mut stores: Vec<_> = (0..stores).map(store).collect();
-        stores.sort_by_key(|store| store.processor);
-        Execution::new(processors, lines, stores, Vec::new())
+/// Question 11: over 128 operations, on the lines of the execution. What follows is any bytes.
+fn fail_operation_count(random: &mut Random, execution: Execution) -> Vec<u8> {
+    // With fewer than three processors 40 stores stay below the limit.
+    let processors = random.between(3, MAX_PROCESSORS);
+    let stores = MAX_OPERATIONS / (1 + processors) + 1;
+    let store = |_| Instruction {
+        processor: random.below(processors),
+        ..access(Kind::Store, 0, &[1])
     };
+    let mut stores: Vec<_> = (0..stores).map(store).collect();
+    stores.sort_by_key(|store| store.processor);
+    let failing = Execution::new(processors, execution.lines, stores, Vec::new());
     let mut bytes = failing.to_bytes();
     bytes.truncate(layout(&failing).pair_count);
     bytes.extend((0..random.below(4)).map(|_| random.byte()));

@@ -106,11 +106,15 @@ fn question(number: u32) -> u8 {
 /// Whether a record passes questions 1 to 15; if not, the number of the first that it fails.
 ///
 /// ```
-/// // One processor, one WB line of zeros, no instruction, no pair: question 10 asks for an instruction.
+/// use oglindesh::proved::check;
+///
+/// // One processor, one WB line of zeros, no instruction, no pair.
 /// let mut record = vec![1, 1];
 /// record.extend([0; 9]);
 /// record.extend([0, 0]);
-/// assert_eq!(oglindesh::proved::check(&record), Err(10));
+/// assert_eq!(check(&record), Ok(()));
+/// // Without its last byte the number of pairs is missing.
+/// assert_eq!(check(&record[..12]), Err(1));
 /// ```
 pub fn check(record: &[u8]) -> Result<(), u8> {
     // SAFETY: the pointer and the length are those of one slice, which the call only reads.

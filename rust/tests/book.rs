@@ -103,6 +103,12 @@ fn record_is_bytes_alone() {
     assert_eq!(printed(&["record", scope, "K1"]), k1().to_bytes());
     let eight = named("scope", "eight processors").to_bytes();
     assert_eq!(printed(&["record", scope, "eight processors"]), eight);
+    let nothing = printed(&[
+        "record",
+        "executions/requests.txt",
+        "nothing on one processor",
+    ]);
+    assert_eq!(nothing, [1, 1, 0, 0, 0, 0, 0, 0, 0, 0, 0, 0, 0]);
 }
 
 /// The attributes are those of the first claim.

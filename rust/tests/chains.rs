@@ -7,7 +7,7 @@ use oglindesh::executions::{source, SOURCES};
 use oglindesh::generate::{damaged, execution, failing, Shape};
 use oglindesh::random::Random;
 use oglindesh::reference::notation::{ld, mf, programs, st, X};
-use oglindesh::reference::record::{read, Execution};
+use oglindesh::reference::record::{read, Execution, QUESTIONS};
 use oglindesh::reference::rules::links;
 
 /// How many tables each question refused; place 0 counts those that were written.
@@ -41,7 +41,7 @@ fn size(bytes: &[u8]) -> usize {
 fn tables_agree_on_generated_records() {
     let mut random = Random::new(21);
     let mut tally = Tally::new();
-    let (rounds, mut chains) = (3000, 0);
+    let (rounds, mut chains, mut empty) = (3000, 0, 0);
     for round in 0..rounds {
         let execution = execution(&mut random, &Shape::ALL[round % 3]);
         let bytes = execution.to_bytes();
@@ -49,12 +49,21 @@ fn tables_agree_on_generated_records() {
         let longer = size + random.between(1, 300);
         let table = tally.ask(&mut random, &bytes, size);
         chains += usize::from(has_more_than_links(&execution, &table));
-        for length in [longer, size - 1, 0] {
+        tally.ask(&mut random, &bytes, longer);
+        if size == 0 {
+            empty += 1;
+            continue;
+        }
+        for length in [size - 1, 0] {
             tally.ask(&mut random, &bytes, length);
         }
     }
-    // The exact and the longer tables are written, those a byte short and the empty ones are not.
-    assert_eq!((tally.0[0], tally.0[22]), (2 * rounds, 2 * rounds));
+    // The exact and the longer tables are written, those that are shorter are not; with no operation there is none.
+    assert_eq!(
+        (tally.0[0], tally.0[22]),
+        (2 * rounds, 2 * (rounds - empty))
+    );
+    assert!(empty > rounds / 30, "{empty} tables have no mark");
     assert!(
         chains > rounds / 3,
         "{chains} tables are not just the links"
@@ -84,13 +93,14 @@ fn tables_agree_on_damaged_records() {
     assert!(tally.0[22] > 0, "no table was too short");
     let reached = tally.0[1..=15].iter().filter(|&&count| count > 0).count();
     assert!(reached > 10, "{reached} questions of the record reached");
+    assert_eq!(tally.0[10], 0, "question 10 is not asked");
 }
 
 /// Whatever the table's length, the record's questions come first.
 #[test]
 fn tables_agree_on_records_that_fail_a_question() {
     let mut random = Random::new(23);
-    for question in 1..=15 {
+    for question in QUESTIONS {
         let mut tally = Tally::new();
         for _ in 0..100 {
             let bytes = failing(&mut random, question);
@@ -129,10 +139,13 @@ fn the_papers_own_examples() {
         for (a, b) in links(execution) {
             assert_eq!(table[a * count + b], 1, "record {bytes:?}, {a} to {b}");
         }
-        tally.ask(&mut random, &bytes, size - 1);
+        if let Some(shorter) = size.checked_sub(1) {
+            tally.ask(&mut random, &bytes, shorter);
+        }
     }
+    let with_marks = accepted.iter().filter(|e| e.operation_count() > 0);
     assert_eq!(tally.0[0], accepted.len());
-    assert_eq!(tally.0[22], accepted.len());
+    assert_eq!(tally.0[22], with_marks.count());
 }
 
 /// ld, st, mf: no link but a chain leads from the load to the store's RV.

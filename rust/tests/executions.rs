@@ -30,6 +30,12 @@ fn document_01() {
 }
 
 #[test]
+fn document_02() {
+    let names = ["nothing on one processor", "nothing on eight processors"];
+    run_source("requests", &names.map(str::to_string));
+}
+
+#[test]
 fn document_000() {
     run_source("computations", &["computation 1".to_string()]);
 }
@@ -81,7 +87,7 @@ fn said_after(programs: &str, line: &str) -> String {
 }
 
 /// Lines, and how the message about them begins.
-const WRONG_LINES: [(&str, &str); 35] = [
+const WRONG_LINES: [(&str, &str); 44] = [
     ("allowed", "f:1: `allowed` stands before any execution"),
     ("execution", "f:1: the execution has no name"),
     ("execution e", "f:1: the execution has no programs"),
@@ -169,6 +175,14 @@ const WRONG_LINES: [(&str, &str); 35] = [
     ),
     ("execution e\nallowed", "f:2: write `programs` before `allowed`"),
     (
+        "execution e\npairs 0 1\nprograms mf, mf",
+        "f:2: write `programs` before `pairs`",
+    ),
+    (
+        "execution e\norder none\nprograms none",
+        "f:2: write `programs` before `order`",
+    ),
+    (
         "execution e\nprograms ld8 4 sees 0\nallowed",
         "f:3: the execution fails question 8 (is the address a multiple of the size, within the lines?)",
     ),
@@ -177,8 +191,36 @@ const WRONG_LINES: [(&str, &str); 35] = [
         "f:3: the execution fails question 3",
     ),
     (
-        "execution e\nprograms none\nforbidden",
-        "f:3: the execution fails question 10",
+        "execution e\nprograms none\nrefused 10",
+        "f:3: no record fails question 10: write the number of a question, 1 to 9 or 11 to 15",
+    ),
+    (
+        "execution e\nprograms none\nrefused 16",
+        "f:3: no record fails question 16",
+    ),
+    (
+        "execution e\nprograms none\npairs 0 1",
+        "f:3: `0` is not an instruction: write one in the line `programs`, which has none",
+    ),
+    (
+        "execution e\nprograms none; none\nlegal order 0",
+        "f:3: there is no operation 0: write `none`",
+    ),
+    (
+        "execution e\nprograms none; none\nlegal order F(0)",
+        "f:3: `0` is not an instruction: write one in the line `programs`, which has none",
+    ),
+    (
+        "execution e\nprograms none\nlegal",
+        "f:3: `legal` is said of no order: write `order` and the operations, or `order none`, here or in a line above",
+    ),
+    (
+        "execution e\nprograms none\noperations 129",
+        "f:3: 129 is too large: write the number of operations, 0 to 128",
+    ),
+    (
+        "execution e\nprograms none, mf\nallowed",
+        "f:2: `,` is left over at the end",
     ),
     (
         "execution e\nprograms st x=1, st x=2\npairs 0 1\nallowed",
@@ -187,7 +229,7 @@ const WRONG_LINES: [(&str, &str); 35] = [
     ("execution e\nprograms mf\nlegal", "f:3: `legal` is said of no order"),
     (
         "execution e\nprograms mf\nunfinished steps 1",
-        "f:3: `unfinished` has not the parts that it takes",
+        "f:3: `unfinished` has not the parts that it takes: write `order` with the position left, `none` for the empty one, ",
     ),
     (
         "execution e\nprograms mf\nforbidden by sets",
@@ -212,16 +254,39 @@ fn wrong_lines_are_told() {
 }
 
 /// Lines after `programs a: st x=1, b: ld y sees 0`, and how the message about them begins.
-const WRONG_NAMES: [(&str, &str); 12] = [
+const WRONG_NAMES: [(&str, &str); 20] = [
     ("pairs 0", "f:3: the line ends too early"),
     ("pairs 0 2", "f:3: `2` is not an instruction"),
     ("pairs a c", "f:3: `c` is not an instruction"),
-    ("order", "f:3: the order is empty"),
+    (
+        "order",
+        "f:3: nothing follows `order`: write operations, as `0 1 2` or `LV(0) -> RVp(0)`, or `none` for the empty order",
+    ),
+    ("allowed order steps 0", "f:3: nothing follows `order`"),
+    ("legal order on WB", "f:3: nothing follows `order`"),
+    (
+        "order none 0",
+        "f:3: `none` is an order with no operation: write it alone",
+    ),
+    ("order 0 none", "f:3: `none` is an order with no operation"),
+    ("order 0 -> none", "f:3: `none` is an order with no operation"),
+    ("order none none", "f:3: `none` is an order with no operation"),
+    (
+        "allowed order none -> 0 steps 3",
+        "f:3: `none` is an order with no operation",
+    ),
+    (
+        "unfinished order none 0 steps 1",
+        "f:3: `none` is an order with no operation",
+    ),
     (
         "order 0 3",
         "f:3: there is no operation 3: write one below 3",
     ),
-    ("order RV(a)", "f:3: `RV` is not an operation"),
+    (
+        "order RV(a)",
+        "f:3: `RV` is not an operation: write the number of an operation, or R(..), LV(..), RVp(..) or F(..) with its instruction, or `none` alone",
+    ),
     ("order LV(b)", "f:3: the instruction has no operation LV"),
     ("order RVq(a)", "f:3: the instruction has no operation RVq"),
     ("order R b", "f:3: `b` stands where `(` is expected"),
@@ -245,7 +310,7 @@ fn wrong_names_are_told() {
 }
 
 /// Claims about `st x=1, ld x sees 1` that are not so, and a part of the message about them.
-const WRONG_CLAIMS: [(&str, &str); 10] = [
+const WRONG_CLAIMS: [(&str, &str); 16] = [
     ("forbidden", "f:3: e on WB: answer: Allowed, not Forbidden"),
     ("allowed steps 4", "steps: 3, not 4 as claimed"),
     ("allowed order 0 2 1", "order: [0, 1, 2], not [0, 2, 1]"),
@@ -257,6 +322,18 @@ const WRONG_CLAIMS: [(&str, &str); 10] = [
         "unfinished order 0 1 2 steps 3",
         "answer: Allowed, not Unfinished",
     ),
+    (
+        "unfinished order none steps 1",
+        "position: [0], not [] as claimed",
+    ),
+    ("unfinished order 0 steps 0", "position: [], not [0]"),
+    ("allowed order none", "order: [0, 1, 2], not []"),
+    ("legal order none", "judgement: Refused(16), not Legal"),
+    (
+        "breaks 1 order none",
+        "judgement: Refused(16), not Breaks(1)",
+    ),
+    ("operations 0", "number of operations: Ok(3), not Ok(0)"),
     ("legal order 1 0 2", "judgement: Breaks(1), not Legal"),
     (
         "breaks 14 on any order 0 2 1",
@@ -276,6 +353,79 @@ fn wrong_claims_are_told() {
         let said = said_after("st x=1, ld x sees 1", claim);
         assert!(said.contains(part), "{claim:?} gives {said}");
     }
+}
+
+/// Claims about an execution with no instruction that are not so, and a part of the message about them.
+const WRONG_OF_NOTHING: [(&str, &str); 6] = [
+    ("forbidden", "f:3: e on WB: answer: Allowed, not Forbidden"),
+    ("allowed steps 1", "steps: 0, not 1 as claimed"),
+    (
+        "unfinished order none steps 0",
+        "answer: Allowed, not Unfinished",
+    ),
+    ("breaks 1 order none", "judgement: Legal, not Breaks(1)"),
+    ("operations 1", "number of operations: Ok(0), not Ok(1)"),
+    (
+        "forbidden by sets steps 0",
+        "prefixes by sets: Some(Counted { prefixes: 0, full: 1 })",
+    ),
+];
+
+#[test]
+fn wrong_claims_of_nothing_are_told() {
+    for (claim, part) in WRONG_OF_NOTHING {
+        let said = said_after("none; none", claim);
+        assert!(said.contains(part), "{claim:?} gives {said}");
+    }
+    assert!(said_after("none", "refused 1").contains("check: Ok(()), not Err(1)"));
+}
+
+/// What may be said of an execution with no instruction (document 02, P2), and of the empty position of one that has some.
+#[test]
+fn the_empty_order_may_be_written() {
+    for programs in [
+        "none",
+        "none; none",
+        "none; none; none; none; none; none; none; none",
+    ] {
+        for claim in [
+            "allowed",
+            "allowed on any",
+            "allowed on x UC",
+            "allowed steps 0",
+            "allowed order none",
+            "allowed order none steps 0",
+            "allowed steps 0 on any order none",
+            "operations 0",
+            "operations 0 on WB or WC",
+            "legal order none",
+            "legal order none on any",
+            "order none\n  legal on any",
+        ] {
+            assert_eq!(
+                said_after(programs, claim),
+                "nothing",
+                "{programs}: {claim}"
+            );
+        }
+    }
+    for claim in [
+        "unfinished order none steps 0",
+        "unfinished steps 0 order none",
+        "unfinished order none steps 0 on any",
+    ] {
+        assert_eq!(
+            said_after("st x=1, ld x sees 1", claim),
+            "nothing",
+            "{claim}"
+        );
+    }
+    let text = "execution e\n  initially y=7\n  programs none; none\n  allowed on x UC, y WC";
+    let executions = read("f", text).unwrap_or_else(|wrong| panic!("{wrong}"));
+    let bytes = executions[0].execution.to_bytes();
+    let lines = [[0; 9], [0, 7, 0, 0, 0, 0, 0, 0, 0]].concat();
+    assert_eq!(bytes, [&[2, 2][..], &lines, &[0, 0, 0]].concat());
+    assert_eq!(said(text), "nothing");
 }
 
 /// A record counts to 255, and the questions ask for less.

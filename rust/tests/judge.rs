@@ -54,7 +54,8 @@ fn judges_agree_near_legal_orders() {
         let bytes = execution.to_bytes();
         let legal = near_legal(&mut random, &execution, &bytes);
         tally.ask(&bytes, &legal);
-        for _ in 0..4 {
+        let others = if legal.is_empty() { 0 } else { 4 };
+        for _ in 0..others {
             // One entry moved, or two exchanged.
             let mut other = legal.clone();
             let (at, to) = (random.below(other.len()), random.below(other.len()));
@@ -82,6 +83,7 @@ fn judges_agree_near_legal_orders() {
         );
     }
     assert!(tally.refused[1..16].iter().any(|&count| count > 0));
+    assert_eq!(tally.refused[10], 0, "question 10 is not asked");
 }
 
 #[test]
@@ -122,11 +124,16 @@ fn every_order(count: u8, order: &mut Vec<u8>, orders: &mut Vec<Vec<u8>>) {
 #[test]
 fn judges_agree_on_orders_of_any_length() {
     let mut random = Random::new(13);
-    let bytes = execution(&mut random, &Shape::SMALL).to_bytes();
     let mut tally = Tally::new();
-    for length in [0, 1, 2, 127, 128, 129, 255, 256, 257, 1000] {
-        let order: Vec<u8> = (0..length).map(|_| random.byte()).collect();
-        tally.ask(&bytes, &order);
+    let rounds = 40;
+    for _ in 0..rounds {
+        let bytes = execution(&mut random, &Shape::SMALL).to_bytes();
+        for length in [0, 1, 2, 127, 128, 129, 255, 256, 257, 1000] {
+            let order = random.bytes(length);
+            tally.ask(&bytes, &order);
+        }
     }
-    assert!(tally.refused[16] > 8);
+    // At most one of the lengths is that of a record's orders.
+    assert!(tally.refused[16] >= 9 * rounds);
+    assert!(tally.legal > 0, "no record has the empty order");
 }

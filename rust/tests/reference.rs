@@ -7,7 +7,7 @@ use oglindesh::random::Random;
 use oglindesh::reference::chains::chain_table;
 use oglindesh::reference::counting::count;
 use oglindesh::reference::fast;
-use oglindesh::reference::record::{read, Execution};
+use oglindesh::reference::record::{read, Execution, QUESTIONS};
 use oglindesh::reference::rules::{judge, links, lowest_broken, JudgeAnswer};
 use oglindesh::reference::search::{search, SearchAnswer, SearchReply};
 use std::collections::BTreeSet;
@@ -25,14 +25,18 @@ fn search_both(bytes: &[u8], buffer: &mut [u8], saved: usize, allowance: u32) ->
     reply
 }
 
+/// Of every shape some executions have no instruction.
 #[test]
 fn written_records_are_read_back() {
     let mut random = Random::new(2);
     for shape in Shape::ALL {
+        let mut empty = 0;
         for _ in 0..300 {
             let e = execution(&mut random, &shape);
+            empty += usize::from(e.instructions.is_empty());
             assert_eq!(read(&e.to_bytes()), Ok(e));
         }
+        assert!((10..100).contains(&empty), "{shape:?}: {empty}");
     }
 }
 
@@ -180,7 +184,8 @@ fn judge_is_consistency_of_full_prefixes() {
             SearchAnswer::Allowed => offered[..count].to_vec(),
             _ => order(&mut random, count),
         };
-        for _ in 0..random.below(3) {
+        let moves = if count > 0 { random.below(3) } else { 0 };
+        for _ in 0..moves {
             let moved = offered.remove(random.below(count));
             offered.insert(random.below(count), moved);
         }
@@ -202,7 +207,7 @@ fn judge_is_consistency_of_full_prefixes() {
 #[test]
 fn targeted_damage_fails_its_question() {
     let mut random = Random::new(8);
-    for question in 1..=15 {
+    for question in QUESTIONS {
         for _ in 0..200 {
             let bytes = failing(&mut random, question);
             assert_eq!(read(&bytes), Err(question), "{bytes:?}");
@@ -277,10 +282,11 @@ fn every_question_is_reached() {
     println!("reached without aiming: {reached:?}");
     let by_calls: BTreeSet<u8> = (16..=22).collect();
     assert!(reached.is_superset(&by_calls), "{reached:?}");
-    for question in 1..=15 {
+    for question in QUESTIONS {
         reached.extend(read(&failing(&mut random, question)).err());
     }
-    assert!(reached.iter().copied().eq(1..=22), "{reached:?}");
+    let all = QUESTIONS.into_iter().chain(by_calls);
+    assert!(reached.iter().copied().eq(all), "{reached:?}");
 }
 
 /// Every list of a tiny record, tested on its own, and the walk over small records that are forbidden.

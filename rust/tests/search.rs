@@ -4,6 +4,7 @@
 use oglindesh::beside::{judge, search};
 use oglindesh::generate::{consistent_prefix, damage_entries, damaged, execution, failing, Shape};
 use oglindesh::random::Random;
+use oglindesh::reference::record::QUESTIONS;
 use oglindesh::reference::rules::JudgeAnswer;
 use oglindesh::reference::search as brute;
 use oglindesh::reference::search::SearchAnswer;
@@ -35,7 +36,7 @@ const STEPS_EACH: u32 = 3000;
 /// been made.
 fn interrupt(random: &mut Random, tally: &mut Tally, bytes: &[u8], buffer: &mut [u8], at: usize) {
     let before = buffer.to_vec();
-    let question = random.between(1, 15) as u8;
+    let question = random.pick(&QUESTIONS);
     let other = failing(random, question);
     let reply = match random.below(3) {
         0 => search(&other, buffer, at, 50),
@@ -88,9 +89,10 @@ fn parts_come_to_the_whole() {
     }
     assert!(tally.allowed > 500 && tally.forbidden > 500, "{tally:?}");
     assert!(tally.unfinished > 3000, "{tally:?}");
-    let refused = &tally.refused;
-    assert!(refused[1..=15].iter().all(|&times| times > 0), "{tally:?}");
-    assert!(refused[18] > 0 && refused[19] > 0, "{tally:?}");
+    let refused = |question: u8| tally.refused[usize::from(question)] > 0;
+    assert!(QUESTIONS.into_iter().all(refused), "{tally:?}");
+    assert!(!refused(10), "question 10 is not asked");
+    assert!(refused(18) && refused(19), "{tally:?}");
 }
 
 /// Positions that are consistent wherever they lie, positions changed a little, and any bytes, in buffers of any length.
@@ -130,6 +132,7 @@ fn saved_positions_are_asked_about() {
     );
     assert!(tally.allowed > 200 && tally.forbidden > 200, "{tally:?}");
     assert!(tally.unfinished > 200, "{tally:?}");
+    assert_eq!(tally.refused[10], 0, "question 10 is not asked");
 }
 
 /// The same calls by brute force: what is held to the incremental search above is held to the paper's words here.

@@ -3,23 +3,31 @@
 use super::draft::Draft;
 use super::words::{number_of, Fault, Words};
 use super::{Claim, Says};
-use crate::reference::record::{Attribute, Execution, Role, LINE_SIZE, MAX_PROCESSORS};
+use crate::reference::record::{Attribute, Execution, Role, LINE_SIZE, MAX_PROCESSORS, QUESTIONS};
 
 impl Draft {
-    /// `0 2 1`, or `LV(US1) -> RVp(US1)`.
+    /// `0 2 1`, or `LV(US1) -> RVp(US1)`, or `none` for the empty order.
     pub(super) fn read_order(&self, words: &mut Words) -> Result<Vec<u8>, Fault> {
+        self.need_programs("order", words)?;
         let execution = self.execution();
         let mut order = Vec::new();
+        let empty = words.skip("none");
         while words
             .peek()
             .is_some_and(|word| !["steps", "on"].contains(&word))
         {
+            if empty || words.skip("none") {
+                return words.fault(
+                    "`none` is an order with no operation: write it alone, or operations without it"
+                        .into(),
+                );
+            }
             order.push(self.read_operation(words, &execution)? as u8);
             words.skip("->");
         }
-        if order.is_empty() {
+        if order.is_empty() && !empty {
             return words.fault(
-                "the order is empty: write operations, as `0 1 2` or `LV(0) -> RVp(0)`".into(),
+                "nothing follows `order`: write operations, as `0 1 2` or `LV(0) -> RVp(0)`, or `none` for the empty order".into(),
             );
         }
         Ok(order)
@@ -28,16 +36,18 @@ impl Draft {
     /// An operation's number, or its role and its instruction.
     fn read_operation(&self, words: &mut Words, execution: &Execution) -> Result<usize, Fault> {
         const WANTED: &str =
-            "the number of an operation, or R(..), LV(..), RVp(..) or F(..) with its instruction";
+            "the number of an operation, or R(..), LV(..), RVp(..) or F(..) with its instruction, or `none` alone for the empty order";
         let word = words.take(WANTED)?;
         let count = execution.operation_count();
         if let Some(number) = number_of(word) {
             if number < count as u64 {
                 return Ok(number as usize);
             }
-            return words.fault(format!(
-                "there is no operation {number}: write one below {count}"
-            ));
+            let write = match count {
+                0 => "`none`, since no instruction gives one".to_string(),
+                _ => format!("one below {count}"),
+            };
+            return words.fault(format!("there is no operation {number}: write {write}"));
         }
         let Some(role) = role_of(word) else {
             return words.fault(format!("`{word}` is not an operation: write {WANTED}"));
@@ -58,13 +68,11 @@ impl Draft {
     /// What follows the word that a claim begins with.
     pub(super) fn read_claim(&mut self, key: &str, words: &mut Words) -> Result<Claim, Fault> {
         let line = words.line;
-        if !self.has_programs {
-            return words.fault(format!("write `programs` before `{key}`"));
-        }
+        self.need_programs(key, words)?;
         let number = match key {
             "breaks" => words.number_to(14, "the number of a rule, 1 to 14")? as u8,
-            "operations" => words.number_to(128, "the number of operations, 1 to 128")? as u8,
-            "refused" => words.number_to(15, "the number of a question, 1 to 15")? as u8,
+            "operations" => words.number_to(128, "the number of operations, 0 to 128")? as u8,
+            "refused" => read_question(words)?,
             _ => 0,
         };
         let mut on = None;
@@ -109,7 +117,7 @@ impl Draft {
             ("operations", None, None, false) => Ok(Says::Operations(number.into())),
             ("legal" | "breaks", order, None, false) => {
                 let order = order.or_else(|| self.order.clone()).ok_or_else(|| {
-                    format!("`{key}` is said of no order: write `order` and the operations, here or in a line above")
+                    format!("`{key}` is said of no order: write `order` and the operations, or `order none`, here or in a line above")
                 })?;
                 Ok(match key {
                     "legal" => Says::Legal(order),
@@ -183,7 +191,18 @@ fn parts(key: &str) -> &'static str {
         "forbidden" => {
             "`on` and `steps` at most, with steps up to 4294967295, or `by sets` and `steps`"
         }
-        _ => "`order` with the position left and `steps` with the allowance",
+        _ => "`order` with the position left, `none` for the empty one, and `steps` with the allowance",
+    }
+}
+
+/// The number of a question that is asked of a record.
+fn read_question(words: &mut Words) -> Result<u8, Fault> {
+    const WANTED: &str = "the number of a question, 1 to 9 or 11 to 15";
+    let number = words.number(WANTED)?;
+    let mut asked = QUESTIONS.into_iter();
+    match asked.find(|&question| u64::from(question) == number) {
+        Some(question) => Ok(question),
+        None => words.fault(format!("no record fails question {number}: write {WANTED}")),
     }
 }
 

@@ -183,8 +183,17 @@ impl Draft {
         Ok(value)
     }
 
+    /// Instructions and operations are spoken of after the programs.
+    pub(super) fn need_programs(&self, key: &str, words: &Words) -> Result<(), Fault> {
+        if self.has_programs {
+            return Ok(());
+        }
+        words.fault(format!("write `programs` before `{key}`"))
+    }
+
     /// `2 3, UL1 UL2`.
     pub(super) fn read_pairs(&mut self, words: &mut Words) -> Result<(), Fault> {
+        self.need_programs("pairs", words)?;
         loop {
             let earlier = self.read_instruction_name(words)?;
             let later = self.read_instruction_name(words)?;
@@ -205,8 +214,11 @@ impl Draft {
         let count = self.instructions.len();
         match found.or(number).filter(|&at| at < count) {
             Some(at) => Ok(at),
+            None if count == 0 => words.fault(format!(
+                "`{word}` is not an instruction: write one in the line `programs`, which has none"
+            )),
             None => words.fault(format!(
-                "`{word}` is not an instruction: write the name before its `:`, or its number, below {count}, after the line `programs`"
+                "`{word}` is not an instruction: write the name before its `:`, or its number, below {count}"
             )),
         }
     }

@@ -100,8 +100,8 @@ pub fn load(path: &Path) -> Result<Vec<Written>, Wrong> {
     load_as(&path.display().to_string(), path)
 }
 
-/// The files of the folder `executions`: document 01, source documents 000 and 001, our own.
-pub const SOURCES: [&str; 4] = ["scope", "computations", "note", "rules"];
+/// The files of the folder `executions`: documents 01 and 02, source documents 000 and 001, our own.
+pub const SOURCES: [&str; 5] = ["scope", "requests", "computations", "note", "rules"];
 
 /// Reads one of the files of the folder `executions`, by its name without the ending.
 pub fn source(name: &str) -> Result<Vec<Written>, Wrong> {

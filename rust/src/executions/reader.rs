@@ -103,24 +103,26 @@ fn read_execution(head: &Entry, body: &[Entry]) -> Result<Written, Fault> {
     Ok(written)
 }
 
-/// What questions 1 to 15 ask, for the message about an execution that fails one.
-const QUESTIONS: [&str; 15] = [
-    "does the item end within the record?",
-    "are there 1 to 8 processors?",
-    "are there 1 to 8 lines, addresses 0 to 63?",
-    "is the attribute WB, UC or WC?",
-    "are there at most 40 instructions?",
-    "is the kind ld, ld.acq, st, st.rel or mf?",
-    "is the size 1, 2, 4 or 8?",
-    "is the address a multiple of the size, within the lines?",
-    "are data bytes past the size zero?",
-    "is there any instruction?",
-    "are there at most 128 operations?",
-    "are there at most 40 pairs?",
-    "does each pair name an earlier and a later instruction of one program, no mf, not two stores?",
-    "do the pairs ascend?",
-    "does the record end?",
-];
+/// What each question asks, for the message about an execution that fails it.
+fn asks(question: u8) -> &'static str {
+    match question {
+        1 => "does the item end within the record?",
+        2 => "are there 1 to 8 processors?",
+        3 => "are there 1 to 8 lines, addresses 0 to 63?",
+        4 => "is the attribute WB, UC or WC?",
+        5 => "are there at most 40 instructions?",
+        6 => "is the kind ld, ld.acq, st, st.rel or mf?",
+        7 => "is the size 1, 2, 4 or 8?",
+        8 => "is the address a multiple of the size, within the lines?",
+        9 => "are data bytes past the size zero?",
+        11 => "are there at most 128 operations?",
+        12 => "are there at most 40 pairs?",
+        13 => "does each pair name an earlier and a later instruction of one program, no mf, not two stores?",
+        14 => "do the pairs ascend?",
+        15 => "does the record end?",
+        _ => panic!("no record fails question {question}"),
+    }
+}
 
 /// A claim other than 'refused' is about an execution that passes questions 1 to 15.
 fn accept(written: &Written) -> Result<(), Fault> {
@@ -131,9 +133,9 @@ fn accept(written: &Written) -> Result<(), Fault> {
     match record::read(&written.execution.to_bytes()) {
         Ok(_) => Ok(()),
         Err(question) => {
-            let asks = QUESTIONS[usize::from(question) - 1];
             let what = format!(
-                "the execution fails question {question} ({asks}): write it so that it passes, or write `refused {question}`"
+                "the execution fails question {question} ({}): write it so that it passes, or write `refused {question}`",
+                asks(question)
             );
             Err((claim.line, what))
         }

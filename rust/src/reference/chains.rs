@@ -10,7 +10,8 @@ pub fn chain_table(bytes: &[u8], table: &mut [u8]) -> Result<(), u8> {
     let count = execution.operation_count();
     ask(22, table.len() >= count * count)?;
     let successors = successors(&execution);
-    for (a, row) in table[..count * count].chunks_exact_mut(count).enumerate() {
+    for a in 0..count {
+        let row = &mut table[a * count..(a + 1) * count];
         row.fill(0);
         mark_reached(&successors, a, row);
     }

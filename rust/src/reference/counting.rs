@@ -7,7 +7,7 @@
 use super::record::{Attribute, Execution, Kind, Operation, Role};
 use std::collections::HashMap;
 
-/// How many consistent prefixes there are, the empty one left out, and how many of them are full.
+/// How many consistent prefixes there are, the empty one left out, and how many are full. With no operation the empty one is full.
 #[derive(Clone, Copy, PartialEq, Eq, Debug)]
 pub struct Counted {
     pub prefixes: u128,

@@ -1,4 +1,4 @@
-//! The reference implementation: record, rules, judge, brute-force search, incremental search, counting and chain table.
+//! The reference implementation: record, rules, judge, brute-force search, incremental search, counting, chain table and verdict.
 
 pub mod chains;
 pub mod counting;
@@ -7,3 +7,4 @@ pub mod notation;
 pub mod record;
 pub mod rules;
 pub mod search;
+pub mod verdict;

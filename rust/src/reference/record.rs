@@ -1,6 +1,10 @@
-//! The record: its types, the reader with questions 1 to 15, the writer, and the operation numbers.
+//! The record: its types, the reader with its questions, the writer, and the operation numbers.
 
 use std::ops::Range;
+
+/// The questions that are asked of a record. Question 10 asked for an instruction: since document 02's P2 a record needs none,
+/// and the number is unused.
+pub const QUESTIONS: [u8; 14] = [1, 2, 3, 4, 5, 6, 7, 8, 9, 11, 12, 13, 14, 15];
 
 /// Most processors of a record (question 2).
 pub const MAX_PROCESSORS: usize = 8;
@@ -305,7 +309,6 @@ pub fn read(bytes: &[u8]) -> Result<Execution, u8> {
     for processor in 0..processors {
         read_program(&mut walk, processor, lines.len(), &mut instructions)?;
     }
-    ask(10, !instructions.is_empty())?;
     let mut execution = Execution::new(processors, lines, instructions, Vec::new());
     ask(11, execution.operation_count() <= MAX_OPERATIONS)?;
     read_pairs(&mut walk, &mut execution)?;
