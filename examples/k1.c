@@ -1,4 +1,4 @@
-/* K1 (one processor: st x=1, ld x sees 1) through every call. k1.txt is what it prints. */
+/* K1 (one processor: st x=1, ld x sees 1) through every call, then a record with no instruction. k1.txt is what it prints. */
 #include "oglindesh.h"
 #include <stdio.h>
 
@@ -13,9 +13,12 @@ static const uint8_t k1[] = {
     0,                                /* no pair */
 };
 
-static void say_judgement(const uint8_t *order, size_t entries)
+/* Two processors, one WB line of zeros, no instruction on either, no pair. It has no operation. */
+static const uint8_t nothing[] = {2, 1, 0, 0, 0, 0, 0, 0, 0, 0, 0, 0, 0, 0};
+
+static void say_judgement(const uint8_t *record, size_t length, const uint8_t *order, size_t entries)
 {
-    uint32_t number = oglindesh_judge(k1, sizeof k1, order, entries);
+    uint32_t number = oglindesh_judge(record, length, order, entries);
     if (number > OGLINDESH_REFUSED)
         printf("question %u refuses the order\n", (unsigned)(number - OGLINDESH_REFUSED));
     else if (number != OGLINDESH_LEGAL)
@@ -25,14 +28,14 @@ static void say_judgement(const uint8_t *order, size_t entries)
 }
 
 /* Searches in calls of two steps each, and prints where each of them comes to. */
-static void search_in_parts(void)
+static void search_in_parts(const uint8_t *record, size_t length)
 {
     uint8_t buffer[OGLINDESH_MAX_OPERATIONS];
     struct oglindesh_search_reply reply = {OGLINDESH_UNFINISHED, 0, 0};
     uint64_t steps = 0;
 
     while (reply.answer == OGLINDESH_UNFINISHED) {
-        reply = oglindesh_search(k1, sizeof k1, buffer, sizeof buffer, reply.length, 2);
+        reply = oglindesh_search(record, length, buffer, sizeof buffer, reply.length, 2);
         steps += reply.steps;
         if (reply.answer > OGLINDESH_REFUSED) {
             printf("question %u refuses the search\n", (unsigned)(reply.answer - OGLINDESH_REFUSED));
@@ -67,10 +70,12 @@ int main(void)
 
     printf("check: %u\n", (unsigned)oglindesh_check(k1, sizeof k1));
     printf("check of a shorter record: %u\n", (unsigned)oglindesh_check(k1, sizeof k1 - 1));
-    say_judgement(local, sizeof local);
-    say_judgement(remote_first, sizeof remote_first);
-    say_judgement(local, 2);
-    search_in_parts();
+    say_judgement(k1, sizeof k1, local, sizeof local);
+    say_judgement(k1, sizeof k1, remote_first, sizeof remote_first);
+    say_judgement(k1, sizeof k1, local, 2);
+    search_in_parts(k1, sizeof k1);
     print_chains();
+    say_judgement(nothing, sizeof nothing, local, 0);
+    search_in_parts(nothing, sizeof nothing);
     return 0;
 }

@@ -25,8 +25,8 @@ extern "C" {
 /* The version of what is declared here. MAJOR goes up where a caller has to change: a call, an answer's number, a question or the
  * layout of a record is another. MINOR goes up where something is added; while MAJOR is 0, for both. */
 #define OGLINDESH_VERSION_MAJOR 0
-#define OGLINDESH_VERSION_MINOR 1
-#define OGLINDESH_VERSION "0.1"
+#define OGLINDESH_VERSION_MINOR 2
+#define OGLINDESH_VERSION "0.2"
 
 /* What a refused call returns, less the number of the question. */
 #define OGLINDESH_REFUSED 256u
@@ -41,7 +41,7 @@ extern "C" {
 #define OGLINDESH_REFUSED_WRONG_SIZE (OGLINDESH_REFUSED + 7u)            /* is the size 1, 2, 4 or 8 (mf: 0)? */
 #define OGLINDESH_REFUSED_WRONG_ADDRESS (OGLINDESH_REFUSED + 8u)         /* is it in the lines, a multiple of the size (mf: 0)? */
 #define OGLINDESH_REFUSED_DATA_PAST_SIZE (OGLINDESH_REFUSED + 9u)        /* are data bytes past the size zero? */
-#define OGLINDESH_REFUSED_NO_INSTRUCTION (OGLINDESH_REFUSED + 10u)       /* is there any instruction? */
+/* No call returns OGLINDESH_REFUSED + 10: since 0.2 a record with no instruction passes, and the number stays unused. */
 #define OGLINDESH_REFUSED_TOO_MANY_OPERATIONS (OGLINDESH_REFUSED + 11u)  /* is N at most 128? */
 #define OGLINDESH_REFUSED_TOO_MANY_PAIRS (OGLINDESH_REFUSED + 12u)       /* are there at most 40 pairs? */
 #define OGLINDESH_REFUSED_WRONG_PAIR (OGLINDESH_REFUSED + 13u)           /* ascending, in one program, no mf, not both stores? */
@@ -99,7 +99,8 @@ struct oglindesh_search_reply {
  * calls, it comes to the same answer, order and sum of steps.
  *
  * The buffer has N bytes or more. Bytes behind the position left stay as they are; after FORBIDDEN and where the call is
- * refused, all do, and the length is the one given.
+ * refused, all do, and the length is the one given. With no instruction N is 0: every buffer has room, an empty one too, and
+ * every search that begins with `saved` 0 is ALLOWED after 0 steps.
  */
 struct oglindesh_search_reply oglindesh_search(const uint8_t *record, size_t length, uint8_t *buffer, size_t room, size_t saved,
                                                uint32_t allowance);
