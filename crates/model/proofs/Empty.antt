@@ -2,16 +2,15 @@
 use Prim.Native.Nat.{ℕ, zero, suc, _+_}
 use native.Mathlib.Omega.{arith}
 use mathlib.Core.Path.{_≡_, refl, sym, ap, _∙_}
-use mathlib.Core.Bool.{Bool, true, cond}
+use mathlib.Core.Bool.{Bool, true}
 use mathlib.Core.List.{List, [], _∷_, _++_, append-nil, append-assoc, map}
-use lib.ListN.{length, take, drop, replicate, length-append, length-replicate}
+use lib.ListN.{length, take, replicate, length-append, length-replicate}
 use lib.Seq.{take-at, drop-at}
-use lib.Dec.{leb}
 use borrow.Author.Tests.{le-leb, lt-leb, ne-eqb}
 use Rattle.base.specs.Lists.{for, below, count, distinct, keep}
 use Rattle.base.specs.Lex.{lexLess}
 use Rattle.model.specs.Execution.{Line, Instruction, Execution, operationCount, operations}
-use Rattle.model.specs.Questions.{at, Found, found, Reader, pure, _>>=_, _>>_, next, item, byte, ask, many, question2, question3, question4, question5, question11, question12, question15, lineLength, lineOf, readLine, readLines, readProgram, readPrograms, readInstructions, readPairs, readRecord}
+use Rattle.model.specs.Questions.{Found, found, Reader, pure, _>>=_, _>>_, next, item, byte, ask, many, question2, question3, question5, question11, question12, question15, lineLength, lineOf, readLine, readLines, readProgram, readPrograms, readInstructions, readPairs, readRecord}
 use Rattle.model.specs.Rules.{rules, keeps, consistent}
 use Rattle.model.specs.Search.{allowed, upToFull, extensions, prefixes, after, searchFrom}
 use Rattle.model.specs.Chains.{chainMarks}
@@ -19,7 +18,7 @@ use Rattle.model.specs.Calls.{says, refuses, andThen, asks, answerOf, re
 use Rattle.model.specs.Accepted.{Each}
 use Rattle.model.specs.Verdict.{inputLimit, positionLimit, callAllowance, callLimit, callOnce, callOn, notCalled, wordAllowed, wordSteps, blank, lineFeed, decimal, lines, verdictLines}
 use Rattle.model.specs.Notation.{recordOf}
-use Rattle.model.specs.Claims.{LinePasses, NothingToOrder, EmptyExecution}
+use Rattle.model.specs.Claims.{LinePasses, EmptyExecution}
 use Rattle.model.proofs.Asking.{after-says, asked-no}
 use Rattle.model.proofs.Consistent.{keeps-empty}
 use Rattle.model.proofs.Legal.{legal-consistent}
