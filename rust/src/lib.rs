@@ -1,5 +1,5 @@
 //! The Itanium visibility judge and search: the proved library for Rust (`proved`), executions in the papers' notation
-//! (`executions`), and beside the proved calls independent ones in plain Rust, written from document 01, that they are tested
+//! (`executions`), and beside the proved calls independent ones in plain Rust, written from the papers, that they are tested
 //! against (`reference`).
 
 pub mod beside;

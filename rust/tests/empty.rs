@@ -9,7 +9,7 @@ use oglindesh::reference::counting::{count, Counted};
 use oglindesh::reference::record::{read, MAX_LINES, MAX_PROCESSORS, QUESTIONS};
 use oglindesh::reference::rules::JudgeAnswer;
 use oglindesh::reference::search as brute;
-use oglindesh::reference::search::{SearchAnswer, SearchReply};
+use oglindesh::reference::search::{refusal, SearchAnswer, SearchReply};
 
 /// Lengths of lent buffers and tables.
 const ROOMS: [usize; 3] = [0, 1, 200];
@@ -55,14 +55,6 @@ fn search_unchanged(
     let by_brute_force = brute::search(bytes, &mut buffer, saved, allowance);
     assert_eq!((by_brute_force, buffer), (reply, came), "record {bytes:?}");
     reply
-}
-
-fn refused(question: u8, saved: usize) -> SearchReply {
-    SearchReply {
-        answer: SearchAnswer::Refused(question),
-        steps: 0,
-        length: saved,
-    }
 }
 
 const ALLOWED: SearchReply = SearchReply {
@@ -118,7 +110,7 @@ fn no_saved_length_but_0() {
             for saved in TOO_LONG {
                 for allowance in ALLOWANCES {
                     let reply = search_unchanged(&mut random, &bytes, room, saved, allowance);
-                    assert_eq!(reply, refused(19, saved), "record {bytes:?}");
+                    assert_eq!(reply, refusal(19, saved), "record {bytes:?}");
                 }
             }
         }
@@ -146,9 +138,9 @@ fn lists_of_calls() {
                     let question = random.pick(&QUESTIONS);
                     let other = failing(&mut random, question);
                     let reply = search(&other, &mut buffer, length, allowance);
-                    assert_eq!(reply, refused(question, length));
+                    assert_eq!(reply, refusal(question, length));
                     let reply = search(&bytes, &mut buffer, length + 1, allowance);
-                    assert_eq!(reply, refused(19, length + 1));
+                    assert_eq!(reply, refusal(19, length + 1));
                 }
             }
             assert_eq!(buffer, came, "record {bytes:?}");
@@ -204,7 +196,7 @@ fn all_refuse(random: &mut Random, bytes: &[u8], question: u8) {
         for saved in [0, 1, usize::MAX] {
             let allowance = random.pick(&ALLOWANCES);
             let reply = search_unchanged(random, bytes, room, saved, allowance);
-            assert_eq!(reply, refused(question, saved), "record {bytes:?}");
+            assert_eq!(reply, refusal(question, saved), "record {bytes:?}");
         }
         let came = random.bytes(room);
         let mut table = came.clone();

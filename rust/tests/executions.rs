@@ -192,7 +192,7 @@ const WRONG_LINES: [(&str, &str); 44] = [
     ),
     (
         "execution e\nprograms none\nrefused 10",
-        "f:3: no record fails question 10: write the number of a question, 1 to 9 or 11 to 15",
+        "f:3: no record fails question 10: write one of 1, 2, 3, 4, 5, 6, 7, 8, 9, 11, 12, 13, 14, 15",
     ),
     (
         "execution e\nprograms none\nrefused 16",
@@ -200,15 +200,15 @@ const WRONG_LINES: [(&str, &str); 44] = [
     ),
     (
         "execution e\nprograms none\npairs 0 1",
-        "f:3: `0` is not an instruction: write one in the line `programs`, which has none",
+        "f:3: `0` is not an instruction: the line `programs` has none, write one there",
     ),
     (
         "execution e\nprograms none; none\nlegal order 0",
-        "f:3: there is no operation 0: write `none`",
+        "f:3: there is no operation 0, since no processor has an instruction: write `none`",
     ),
     (
         "execution e\nprograms none; none\nlegal order F(0)",
-        "f:3: `0` is not an instruction: write one in the line `programs`, which has none",
+        "f:3: `0` is not an instruction: the line `programs` has none, write one there",
     ),
     (
         "execution e\nprograms none\nlegal",
@@ -229,7 +229,7 @@ const WRONG_LINES: [(&str, &str); 44] = [
     ("execution e\nprograms mf\nlegal", "f:3: `legal` is said of no order"),
     (
         "execution e\nprograms mf\nunfinished steps 1",
-        "f:3: `unfinished` has not the parts that it takes: write `order` with the position left, `none` for the empty one, ",
+        "f:3: `unfinished` has not the parts that it takes: write `order` with the position left (`none` for the empty one) and `steps`",
     ),
     (
         "execution e\nprograms mf\nforbidden by sets",

@@ -83,7 +83,6 @@ fn judges_agree_near_legal_orders() {
         );
     }
     assert!(tally.refused[1..16].iter().any(|&count| count > 0));
-    assert_eq!(tally.refused[10], 0, "question 10 is not asked");
 }
 
 #[test]

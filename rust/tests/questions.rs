@@ -1,4 +1,4 @@
-//! The questions 1 to 22 by hand: boundary values, and which of two comes first.
+//! The questions 1 to 22 but 10, which is not asked, by hand: boundary values, and which of two comes first.
 
 use oglindesh::beside;
 use oglindesh::reference::chains::chain_table;
@@ -143,7 +143,7 @@ fn first_no_decides() {
 
 #[test]
 fn after_the_last_program() {
-    // No instruction is asked for (document 02, P2); what an empty last program lacks behind it is the pair count.
+    // No instruction is asked for (document 02, P2); a record that ends after its empty program lacks the pair count.
     let empty = [1, 1, 0, 0, 0, 0, 0, 0, 0, 0, 0, 0, 0];
     assert_eq!(read(&empty).map(|e| e.operation_count()), Ok(0));
     assert_eq!(read(&empty[..12]), Err(1));

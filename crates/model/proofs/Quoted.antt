@@ -1,4 +1,4 @@
--- The claims about the definitions hold.
+-- The claims about the definitions hold; that about a record with no instruction is in `Empty`.
 use Rattle.model.specs.Execution.{Execution, operations}
 use Rattle.model.specs.Rules.{rules, consistent}
 use Rattle.model.specs.Claims.{FullIsLegal, PrefixIsConsistent, PrefixesAre, TableIsRules}

@@ -61,7 +61,7 @@ pub record NothingToOrder (bytes : List ℕ) (e : Execution) : Type 0 where
       → searchCall bytes buffer 0 allowance ≡ record { answer = says allowed; steps = 0; length = 0; buffer = buffer }
   pub saved-refused : (buffer : List ℕ) (saved allowance : ℕ)
       → searchCall bytes buffer (suc saved) allowance ≡ record { answer = refuses 19; steps = 0; length = suc saved; buffer = buffer }
-  -- The count of beginnings is 0.
+  -- No consistent prefix comes after the empty one: document 02's count of beginnings is 0.
   pub none-after : after (operations e) (keeps (rules e)) [] ≡ []
   -- The chain table call answers done and changes nothing.
   pub table-stays : (table : List ℕ) → tableCall bytes table ≡ record { answer = says done; table = table }
@@ -69,11 +69,11 @@ pub record NothingToOrder (bytes : List ℕ) (e : Execution) : Type 0 where
   pub prints : (input : List ℕ) → take inputLimit input ≡ bytes
       → verdictLines input ≡ wordAllowed ++ lineFeed ++ wordSteps ++ blank ++ decimal 0 ++ lineFeed
 
--- a line that passes questions 1 and 4
+-- the nine bytes of a line whose attribute passes question 4
 abbrev pub LinePasses : List ℕ → Type 0
 LinePasses x = (length x ≡ lineLength) × (question4 (at x 0) ≡ true)
 
--- so it is for all processors and lines that pass their questions
+-- P2, for every number of processors that passes question 2 and all lines that pass questions 3 and 4
 abbrev pub EmptyExecution : Type 0
 EmptyExecution =
     (p : ℕ) (lines : List (List ℕ)) → question2 p ≡ true → question3 (length lines) ≡ true → Each LinePasses lines

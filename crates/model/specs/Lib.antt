@@ -1,4 +1,4 @@
--- Documents 01 and 02 as definitions, in their order; then tables of examples.
+-- Document 01 as definitions, in its order, with the requests of document 02 that have landed; then tables of examples.
 pub mod Execution
 pub mod Questions
 pub mod Rules
@@ -8,9 +8,9 @@ pub mod Chains
 pub mod Calls
 pub mod Accepted
 pub mod Courses
-pub mod Claims
 pub mod Verdict
 pub mod Notation
+pub mod Claims
 pub mod Rows
 pub mod PaperTable
 pub mod RuleTable

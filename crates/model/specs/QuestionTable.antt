@@ -4,8 +4,7 @@ use mathlib.Core.List.{List, [], _∷_, _++_, map}
 use lib.ListN.{take, drop, replicate}
 use Rattle.base.specs.Lists.{for, below}
 use Rattle.model.specs.Notation.{x, wb, uc, wc, zeros, ld, st, mf, entry, recordOf}
-use Rattle.model.specs.Calls.{legal}
-use Rattle.model.specs.Rows.{Row, judged, judged-no, searched-no, tabled-no, cut}
+use Rattle.model.specs.Rows.{Row, judged-no, searched-no, tabled-no, cut}
 use Rattle.model.specs.PaperTable.{k1, k2, k11-pair}
 use Rattle.model.specs.RequestTable.{nothing}
 
@@ -13,7 +12,7 @@ use Rattle.model.specs.RequestTable.{nothing}
 abbrev refused : List ℕ → ℕ → Row
 refused bytes q = judged-no bytes [] q
 
--- the record passes questions 1 to 15: it is an empty order that is refused
+-- a record with an instruction passes questions 1 to 15: it is its empty order that is refused
 abbrev passes : List ℕ → Row
 passes bytes = judged-no bytes [] 16
 
@@ -80,8 +79,7 @@ questionTable =
     ∷ refused (only (0 ∷ 0 ∷ 1 ∷ 5 ∷ 0 ∷ 0 ∷ 0 ∷ 0 ∷ 0 ∷ 0 ∷ 1 ∷ [])) 9
     ∷ refused (only (entry 4 0 0 1)) 9
     ∷ passes (only (2 ∷ 0 ∷ 8 ∷ 1 ∷ 2 ∷ 3 ∷ 4 ∷ 5 ∷ 6 ∷ 7 ∷ 8 ∷ []))
-    -- 10 is not asked: a record with no instruction passes, and so does its empty order; where it ends before the count of pairs, question 1 refuses it
-    ∷ judged nothing [] legal
+    -- 10 is not asked: a record with no instruction passes (`RequestTable`), and where it is cut it is refused as any other
     ∷ cut nothing 1
     -- 11: 128 operations
     ∷ passes (eight 14 0)

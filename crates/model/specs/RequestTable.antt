@@ -1,4 +1,4 @@
--- For each request of document 02, calls and what they must answer.
+-- For each request of document 02 that has landed, calls and what they must answer.
 use Prim.Native.Nat.{ℕ}
 use mathlib.Core.Bool.{true}
 use mathlib.Core.List.{List, [], _∷_, _++_}

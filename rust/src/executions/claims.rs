@@ -18,7 +18,7 @@ impl Draft {
         {
             if empty || words.skip("none") {
                 return words.fault(
-                    "`none` is an order with no operation: write it alone, or operations without it"
+                    "`none` is an order with no operation: write it alone, or the operations without it"
                         .into(),
                 );
             }
@@ -43,11 +43,12 @@ impl Draft {
             if number < count as u64 {
                 return Ok(number as usize);
             }
-            let write = match count {
-                0 => "`none`, since no instruction gives one".to_string(),
-                _ => format!("one below {count}"),
-            };
-            return words.fault(format!("there is no operation {number}: write {write}"));
+            return words.fault(match count {
+                0 => format!(
+                    "there is no operation {number}, since no processor has an instruction: write `none`"
+                ),
+                _ => format!("there is no operation {number}: write one below {count}"),
+            });
         }
         let Some(role) = role_of(word) else {
             return words.fault(format!("`{word}` is not an operation: write {WANTED}"));
@@ -191,18 +192,22 @@ fn parts(key: &str) -> &'static str {
         "forbidden" => {
             "`on` and `steps` at most, with steps up to 4294967295, or `by sets` and `steps`"
         }
-        _ => "`order` with the position left, `none` for the empty one, and `steps` with the allowance",
+        _ => "`order` with the position left (`none` for the empty one) and `steps` with the allowance",
     }
 }
 
 /// The number of a question that is asked of a record.
 fn read_question(words: &mut Words) -> Result<u8, Fault> {
-    const WANTED: &str = "the number of a question, 1 to 9 or 11 to 15";
-    let number = words.number(WANTED)?;
+    let number = words.number("the number of a question")?;
     let mut asked = QUESTIONS.into_iter();
     match asked.find(|&question| u64::from(question) == number) {
         Some(question) => Ok(question),
-        None => words.fault(format!("no record fails question {number}: write {WANTED}")),
+        None => {
+            let numbers = QUESTIONS.map(|question| question.to_string()).join(", ");
+            words.fault(format!(
+                "no record fails question {number}: write one of {numbers}"
+            ))
+        }
     }
 }
 

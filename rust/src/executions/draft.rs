@@ -215,7 +215,7 @@ impl Draft {
         match found.or(number).filter(|&at| at < count) {
             Some(at) => Ok(at),
             None if count == 0 => words.fault(format!(
-                "`{word}` is not an instruction: write one in the line `programs`, which has none"
+                "`{word}` is not an instruction: the line `programs` has none, write one there"
             )),
             None => words.fault(format!(
                 "`{word}` is not an instruction: write the name before its `:`, or its number, below {count}"

@@ -57,7 +57,7 @@ pub fn search(bytes: &[u8], buffer: &mut [u8], saved: usize, allowance: u32) -> 
 }
 
 /// The reply to a call that a question refuses.
-pub(crate) fn refusal(question: u8, saved: usize) -> SearchReply {
+pub fn refusal(question: u8, saved: usize) -> SearchReply {
     SearchReply {
         answer: SearchAnswer::Refused(question),
         steps: 0,
