@@ -14,12 +14,12 @@ use Rattle.model.specs.Questions.{Found, found, Reader, pure, _>>=_, _>>
 use Rattle.model.specs.Rules.{rules, keeps, consistent}
 use Rattle.model.specs.Search.{allowed, upToFull, extensions, prefixes, after, searchFrom}
 use Rattle.model.specs.Chains.{chainMarks}
-use Rattle.model.specs.Calls.{says, refuses, andThen, asks, answerOf, readAll, judgeOrder, judgeCall, Legal, searchPosition, searchSaved, searching, SearchReply, searchReply, searchCall, done, tableMarks, tabling, tableReply, tableCall}
+use Rattle.model.specs.Calls.{says, refuses, answerOf, readAll, judgeOrder, judgeCall, Legal, searchPosition, searchSaved, searching, SearchReply, searchReply, searchCall, done, tableMarks, tabling, tableReply, tableCall}
 use Rattle.model.specs.Accepted.{Each}
 use Rattle.model.specs.Verdict.{inputLimit, positionLimit, callAllowance, callLimit, callOnce, callOn, notCalled, wordAllowed, wordSteps, blank, lineFeed, decimal, lines, verdictLines}
 use Rattle.model.specs.Notation.{recordOf}
 use Rattle.model.specs.Claims.{LinePasses, EmptyExecution}
-use Rattle.model.proofs.Asking.{after-says, asked-no}
+use Rattle.model.proofs.Asking.{after-says, asked-yes, asked-no}
 use Rattle.model.proofs.Consistent.{keeps-empty}
 use Rattle.model.proofs.Legal.{legal-consistent}
 
@@ -117,17 +117,29 @@ module _ (p : ℕ) (ls : List (List ℕ)) (two : question2 p ≡ true) (three : 
 
   searches : (buffer : List ℕ) (allowance : ℕ)
       → searchCall blankRecord buffer 0 allowance ≡ record { answer = says allowed; steps = 0; length = 0; buffer = buffer }
-  unfolding searchCall searching searchSaved searchPosition searchReply searchFrom andThen asks operations operationCount distinct consistent
-  searches buffer allowance = rw (accepts, le-leb 0 (length buffer) (omega arith), keeps-empty (rules blankExecution))
+  unfolding searchCall searching searchSaved searchPosition searchReply searchFrom operations operationCount distinct consistent
+  searches buffer allowance =
+      ap (searchReply 0 buffer)
+      (sym (asked-yes 21 _ (keeps-empty (rules blankExecution))
+      ∙ asked-yes 20 _ refl
+      ∙ asked-yes 19 _ refl
+      ∙ asked-yes 18 _ (le-leb 0 (length buffer) (omega arith))
+      ∙ after-says (λ e. searchSaved e buffer 0 allowance) accepts))
 
   refuses-saved : (buffer : List ℕ) (saved allowance : ℕ)
       → searchCall blankRecord buffer (suc saved) allowance ≡ record { answer = refuses 19; steps = 0; length = suc saved; buffer = buffer }
-  unfolding searchCall searching searchSaved searchReply andThen asks operations operationCount
-  refuses-saved buffer saved allowance = rw (accepts, le-leb 0 (length buffer) (omega arith), lt-leb (suc saved) 0 (omega arith))
+  unfolding searchCall searching searchSaved searchReply operations operationCount
+  refuses-saved buffer saved allowance =
+      ap (searchReply (suc saved) buffer)
+      (sym (asked-no 19 _ (lt-leb (suc saved) 0 (omega arith))
+      ∙ asked-yes 18 _ (le-leb 0 (length buffer) (omega arith))
+      ∙ after-says (λ e. searchSaved e buffer (suc saved) allowance) accepts))
 
   tables : (table : List ℕ) → tableCall blankRecord table ≡ record { answer = says done; table = table }
-  unfolding tableCall tabling tableMarks tableReply chainMarks andThen asks operations operationCount for below count
-  tables table = rw (accepts, le-leb 0 (length table) (omega arith))
+  unfolding tableCall tabling tableMarks tableReply chainMarks operations operationCount for below count
+  tables table =
+      ap (tableReply table)
+      (sym (asked-yes 22 _ (le-leb 0 (length table) (omega arith)) ∙ after-says (λ e. tableMarks e table) accepts))
 
   none-come-after : after (operations blankExecution) (keeps (rules blankExecution)) [] ≡ []
   unfolding after prefixes extensions upToFull keep lexLess operations operationCount
