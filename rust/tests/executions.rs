@@ -347,16 +347,21 @@ const WRONG_CLAIMS: [(&str, &str); 16] = [
     ),
 ];
 
-#[test]
-fn wrong_claims_are_told() {
-    for (claim, part) in WRONG_CLAIMS {
-        let said = said_after("st x=1, ld x sees 1", claim);
+/// What is said of each of these claims about the programs has the part that stands beside it.
+fn assert_told(programs: &str, claims: &[(&str, &str)]) {
+    for (claim, part) in claims {
+        let said = said_after(programs, claim);
         assert!(said.contains(part), "{claim:?} gives {said}");
     }
 }
 
+#[test]
+fn wrong_claims_are_told() {
+    assert_told("st x=1, ld x sees 1", &WRONG_CLAIMS);
+}
+
 /// Claims about an execution with no instruction that are not so, and a part of the message about them.
-const WRONG_OF_NOTHING: [(&str, &str); 6] = [
+const WRONG_OF_NOTHING: [(&str, &str); 7] = [
     ("forbidden", "f:3: e on WB: answer: Allowed, not Forbidden"),
     ("allowed steps 1", "steps: 0, not 1 as claimed"),
     (
@@ -365,6 +370,7 @@ const WRONG_OF_NOTHING: [(&str, &str); 6] = [
     ),
     ("breaks 1 order none", "judgement: Legal, not Breaks(1)"),
     ("operations 1", "number of operations: Ok(0), not Ok(1)"),
+    ("refused 1", "check: Ok(()), not Err(1)"),
     (
         "forbidden by sets steps 0",
         "prefixes by sets: Some(Counted { prefixes: 0, full: 1 })",
@@ -373,11 +379,7 @@ const WRONG_OF_NOTHING: [(&str, &str); 6] = [
 
 #[test]
 fn wrong_claims_of_nothing_are_told() {
-    for (claim, part) in WRONG_OF_NOTHING {
-        let said = said_after("none; none", claim);
-        assert!(said.contains(part), "{claim:?} gives {said}");
-    }
-    assert!(said_after("none", "refused 1").contains("check: Ok(()), not Err(1)"));
+    assert_told("none; none", &WRONG_OF_NOTHING);
 }
 
 /// What may be said of an execution with no instruction (document 02, P2), and of the empty position of one that has some.

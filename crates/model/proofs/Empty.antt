@@ -10,18 +10,18 @@ use borrow.Author.Tests.{le-leb, lt-leb, ne-eqb}
 use Rattle.base.specs.Lists.{for, below, count, distinct, keep}
 use Rattle.base.specs.Lex.{lexLess}
 use Rattle.model.specs.Execution.{Line, Instruction, Execution, operationCount, operations}
-use Rattle.model.specs.Questions.{Found, found, Reader, pure, _>>=_, _>>_, next, item, byte, ask, many, question2, question3, question5, question11, question12, question15, lineLength, lineOf, readLine, readLines, readProgram, readPrograms, readInstructions, readPairs, readRecord}
+use Rattle.model.specs.Questions.{Found, found, next, item, byte, ask, many, question2, question3, question5, question11, question12, question15, lineLength, lineOf, readLine, readLines, readProgram, readPrograms, readInstructions, readPairs, readRecord}
 use Rattle.model.specs.Rules.{rules, keeps, consistent}
 use Rattle.model.specs.Search.{allowed, upToFull, extensions, prefixes, after, searchFrom}
 use Rattle.model.specs.Chains.{chainMarks}
-use Rattle.model.specs.Calls.{says, refuses, answerOf, readAll, judgeOrder, judgeCall, Legal, searchPosition, searchSaved, searching, SearchReply, searchReply, searchCall, done, tableMarks, tabling, tableReply, tableCall}
+use Rattle.model.specs.Calls.{says, refuses, readAll, judgeOrder, judgeCall, Legal, searchPosition, searchSaved, searching, SearchReply, searchReply, searchCall, done, tableMarks, tabling, tableReply, tableCall}
 use Rattle.model.specs.Accepted.{Each}
 use Rattle.model.specs.Verdict.{inputLimit, positionLimit, callAllowance, callLimit, callOnce, callOn, notCalled, wordAllowed, wordSteps, blank, lineFeed, decimal, lines, verdictLines}
 use Rattle.model.specs.Notation.{recordOf}
 use Rattle.model.specs.Claims.{LinePasses, EmptyExecution}
 use Rattle.model.proofs.Asking.{after-says, asked-yes, asked-no}
 use Rattle.model.proofs.Consistent.{keeps-empty}
-use Rattle.model.proofs.Legal.{legal-consistent}
+use Rattle.model.proofs.Legal.{found-says, legal-consistent}
 
 -- an item at the front
 item-front : (n : ℕ) (x rest : List ℕ) → length x ≡ n → item n (x ++ rest) ≡ found x rest
@@ -42,9 +42,11 @@ lines-front (l ∷ ls) before rest (passes, h) =
     ∙ lines-front ls (before ++ (lineOf l ∷ [])) rest h
     ∙ ap (λ (d : List Line). found d rest) (append-assoc before (lineOf l ∷ []) (map lineOf ls))
 
--- programs with nothing in them, from processor p on
-programs-front : (processors lines p left : ℕ) (rest : List ℕ)
-    → readPrograms processors lines p left [] (for (replicate left []) (λ q. length q ∷ for q (λ i. i)) ++ rest) ≡ found [] rest
+-- the bytes of so many programs with nothing in them
+abbrev emptyPrograms : ℕ → List ℕ
+emptyPrograms p = for (replicate {A = List (List ℕ)} p []) (λ q. length q ∷ for q (λ i. i))
+
+programs-front : (processors lines p left : ℕ) (rest : List ℕ) → readPrograms processors lines p left [] (emptyPrograms left ++ rest) ≡ found [] rest
 unfolding readPrograms readProgram next byte ask question5 many for
 programs-front processors lines p zero rest = refl
 programs-front processors lines p (suc left) rest = programs-front processors lines (suc p) left rest
@@ -57,27 +59,9 @@ lines-come ls rest three passes =
     ap (λ (b : Bool). next (ask 3 b (for ls (λ l. l) ++ rest)) (λ _. many (λ d. readLine) (length ls) [])) three
     ∙ lines-front ls [] rest passes
 
-instructions-come : (p lines : ℕ) (rest : List ℕ)
-    → readInstructions p lines (for (replicate p []) (λ q. length q ∷ for q (λ i. i)) ++ rest) ≡ found [] rest
+instructions-come : (p lines : ℕ) (rest : List ℕ) → readInstructions p lines (emptyPrograms p ++ rest) ≡ found [] rest
 unfolding readInstructions next ask question11 operationCount
 instructions-come p lines rest = rw (programs-front p lines 0 p rest)
-
--- what is read after the instructions, the lines and the number of processors
-abbrev withPairs : ℕ → List Line → List Instruction → Reader Execution
-withPairs p ls is = do
-  pairs ← readPairs is
-  question15
-  pure (record { processors = p; lines = ls; instructions = is; pairs = pairs })
-
-abbrev withInstructions : ℕ → List Line → Reader Execution
-withInstructions p ls = do
-  is ← readInstructions p (length ls)
-  withPairs p ls is
-
-abbrev withLines : ℕ → Reader Execution
-withLines p = do
-  ls ← readLines
-  withInstructions p ls
 
 module _ (p : ℕ) (ls : List (List ℕ)) (two : question2 p ≡ true) (three : question3 (length ls) ≡ true) (passes : Each LinePasses ls) where
   abbrev blankRecord : List ℕ
@@ -90,18 +74,11 @@ module _ (p : ℕ) (ls : List (List ℕ)) (two : question2 p ≡ true) (three : 
   reads : readRecord blankRecord ≡ found blankExecution []
   unfolding readRecord recordOf readPairs question12 question15 next ask byte many for
   reads =
-      let programs : List ℕ = for (replicate p []) (λ q. length q ∷ for q (λ i. i)) ++ (0 ∷ []) in
-      let tail : List ℕ = length ls ∷ for ls (λ l. l) ++ programs in
-      ap (λ (b : List ℕ). readRecord (length (replicate {A = List (List ℕ)} p []) ∷ length ls ∷ b))
-      (append-assoc (for ls (λ l. l)) (for (replicate {A = List (List ℕ)} p []) (λ q. length q ∷ for q (λ i. i))) (0 ∷ []))
-      ∙ ap (λ (q : ℕ). next (ask 2 (question2 q) tail) (λ _. withLines q)) (length-replicate p [])
-      ∙ ap (λ (b : Bool). next (ask 2 b tail) (λ _. withLines p)) two
-      ∙ ap (λ (f : Found (List Line)). next f (withInstructions p)) (lines-come ls programs three passes)
-      ∙ ap (λ (f : Found (List Instruction)). next f (withPairs p (map lineOf ls))) (instructions-come p (length (map lineOf ls)) (0 ∷ []))
+      ap (λ (b : List ℕ). readRecord (length (replicate {A = List (List ℕ)} p []) ∷ length ls ∷ b)) (append-assoc (for ls (λ l. l)) (emptyPrograms p) (0 ∷ []))
+      ∙ rw (length-replicate {A = List (List ℕ)} p [], two, lines-come ls (emptyPrograms p ++ (0 ∷ [])) three passes, instructions-come p (length (map lineOf ls)) (0 ∷ []))
 
   accepts : readAll blankRecord ≡ says blankExecution
-  unfolding readAll answerOf
-  accepts = rw reads
+  accepts = found-says blankRecord blankExecution [] reads
 
   none-counted : operations blankExecution ≡ 0
   unfolding operations operationCount

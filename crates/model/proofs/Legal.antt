@@ -33,7 +33,7 @@ lowest-keeps k (r ∷ rs) xs = go (any (broken xs) r) (lowest-keeps (suc k) rs x
     go false ih = ih
 
 -- what is found is said
-found-says : (bytes : List ℕ) (e : Execution) (rest : List ℕ) → readRecord bytes ≡ found e rest → readAll bytes ≡ says e
+pub found-says : (bytes : List ℕ) (e : Execution) (rest : List ℕ) → readRecord bytes ≡ found e rest → readAll bytes ≡ says e
 unfolding readAll answerOf
 found-says bytes e rest h = rw h
 

@@ -49,7 +49,7 @@ TableIsRules =
     × (member (marks earlier later) 4 ≡ (isFence earlier || isFence later))
 
 -- Document 02, P2: what every call answers where the record has no instruction
-pub record NothingToOrder (bytes : List ℕ) (e : Execution) : Type 0 where
+pub record EmptyAnswers (bytes : List ℕ) (e : Execution) : Type 0 where
   -- The record is accepted, and N is 0.
   pub accepted : readAll bytes ≡ says e
   pub no-operations : operations e ≡ 0
@@ -77,4 +77,4 @@ LinePasses x = (length x ≡ lineLength) × (question4 (at x 0) ≡ true)
 abbrev pub EmptyExecution : Type 0
 EmptyExecution =
     (p : ℕ) (lines : List (List ℕ)) → question2 p ≡ true → question3 (length lines) ≡ true → Each LinePasses lines
-    → NothingToOrder (recordOf lines (replicate p []) []) (record { processors = p; lines = map lineOf lines; instructions = []; pairs = [] })
+    → EmptyAnswers (recordOf lines (replicate p []) []) (record { processors = p; lines = map lineOf lines; instructions = []; pairs = [] })
