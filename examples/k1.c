@@ -1,4 +1,5 @@
-/* K1 (one processor: st x=1, ld x sees 1) through every call, then a record with no instruction. k1.txt is what it prints. */
+/* K1 (one processor: st x=1, ld x sees 1) through every call; then a record with no instruction, and one of UC memory with its
+ * domains. k1.txt is what it prints. */
 #include "oglindesh.h"
 #include <stdio.h>
 
@@ -15,6 +16,19 @@ static const uint8_t k1[] = {
 
 /* Two processors, one WB line of zeros, no instruction on either, no pair. It has no operation. */
 static const uint8_t nothing[] = {2, 1, 0, 0, 0, 0, 0, 0, 0, 0, 0, 0, 0, 0};
+
+/* Two UC lines, one after the other loaded: ld x sees 0, ld y sees 0. A line's attribute is 1 + 16 * d, d being its domain. */
+enum { Y_ATTRIBUTE = 2 + 9 };
+static uint8_t uncacheable[] = {
+    1,                                /* one processor */
+    2,                                /* two lines: */
+    1, 0, 0, 0, 0, 0, 0, 0, 0,        /* UC of domain 0, eight initial bytes */
+    1, 0, 0, 0, 0, 0, 0, 0, 0,        /* the same */
+    2,                                /* two instructions: */
+    0, 0, 1, 0, 0, 0, 0, 0, 0, 0, 0,  /* ld, address 0, size 1, sees 0 */
+    0, 8, 1, 0, 0, 0, 0, 0, 0, 0, 0,  /* ld, address 8, size 1, sees 0 */
+    0,                                /* no pair */
+};
 
 static void say_judgement(const uint8_t *record, size_t length, const uint8_t *order, size_t entries)
 {
@@ -66,7 +80,7 @@ static void print_chains(void)
 
 int main(void)
 {
-    static const uint8_t local[] = {0, 2, 1}, remote_first[] = {1, 0, 2};
+    static const uint8_t local[] = {0, 2, 1}, remote_first[] = {1, 0, 2}, turned[] = {1, 0};
 
     printf("check: %u\n", (unsigned)oglindesh_check(k1, sizeof k1));
     printf("check of a shorter record: %u\n", (unsigned)oglindesh_check(k1, sizeof k1 - 1));
@@ -77,5 +91,8 @@ int main(void)
     print_chains();
     say_judgement(nothing, sizeof nothing, local, 0);
     search_in_parts(nothing, sizeof nothing);
+    say_judgement(uncacheable, sizeof uncacheable, turned, sizeof turned);
+    uncacheable[Y_ATTRIBUTE] = 1 + 16 * 1;
+    say_judgement(uncacheable, sizeof uncacheable, turned, sizeof turned);
     return 0;
 }

@@ -25,8 +25,8 @@ extern "C" {
 /* The version of what is declared here. MAJOR goes up where a caller has to change: a call, an answer's number, a question or the
  * layout of a record is another. MINOR goes up where something is added; while MAJOR is 0, for both. */
 #define OGLINDESH_VERSION_MAJOR 0
-#define OGLINDESH_VERSION_MINOR 2
-#define OGLINDESH_VERSION "0.2"
+#define OGLINDESH_VERSION_MINOR 3
+#define OGLINDESH_VERSION "0.3"
 
 /* What a refused call returns, less the number of the question. */
 #define OGLINDESH_REFUSED 256u
@@ -35,7 +35,7 @@ extern "C" {
 #define OGLINDESH_REFUSED_CUT_SHORT (OGLINDESH_REFUSED + 1u)             /* does the item end within the bytes? */
 #define OGLINDESH_REFUSED_PROCESSOR_COUNT (OGLINDESH_REFUSED + 2u)       /* are there 1 to 8 processors? */
 #define OGLINDESH_REFUSED_LINE_COUNT (OGLINDESH_REFUSED + 3u)            /* are there 1 to 8 lines? */
-#define OGLINDESH_REFUSED_UNKNOWN_ATTRIBUTE (OGLINDESH_REFUSED + 4u)     /* is the attribute 0 to 2? */
+#define OGLINDESH_REFUSED_UNKNOWN_ATTRIBUTE (OGLINDESH_REFUSED + 4u)     /* is the attribute 0, 1, 2, 17, 33 or 49? */
 #define OGLINDESH_REFUSED_TOO_MANY_INSTRUCTIONS (OGLINDESH_REFUSED + 5u) /* are there at most 40 with this count added? */
 #define OGLINDESH_REFUSED_UNKNOWN_KIND (OGLINDESH_REFUSED + 6u)          /* is the kind 0 to 4? */
 #define OGLINDESH_REFUSED_WRONG_SIZE (OGLINDESH_REFUSED + 7u)            /* is the size 1, 2, 4 or 8 (mf: 0)? */

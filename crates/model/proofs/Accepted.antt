@@ -34,13 +34,28 @@ unfolding ask
 asked q true bytes u r h = refl
 asked q false bytes u r h = let z : _≡_ {A = ℕ} 0 1 = cc in absurd (omega arith)
 
-item-length : (n : ℕ) (bytes x r : List ℕ) → item n bytes ≡ found x r → length x ≡ n
+-- a question takes no bytes
+pub asked-on : (q : ℕ) (b : Bool) (bytes : List ℕ) (u : Unit {0}) (r : List ℕ) → ask q b bytes ≡ found u r → bytes ≡ r
+unfolding ask
+asked-on q true bytes u r h = cc
+asked-on q false bytes u r h = let z : _≡_ {A = ℕ} 0 1 = cc in absurd (omega arith)
+
+pub byte-came : (bytes : List ℕ) (n : ℕ) (r : List ℕ) → byte bytes ≡ found n r → bytes ≡ n ∷ r
+unfolding byte
+byte-came [] n r h = let z : _≡_ {A = ℕ} 0 1 = cc in absurd (omega arith)
+byte-came (b ∷ bytes) n r h = cc
+
+pub item-came : (n : ℕ) (bytes x r : List ℕ) → item n bytes ≡ found x r → (n ≤ length bytes) × (take n bytes ≡ x) × (drop n bytes ≡ r)
 unfolding item
-item-length n bytes x r h = go (leb n (length bytes)) refl h
+item-came n bytes x r h = go (leb n (length bytes)) refl h
   where
-    go : (b : Bool) → leb n (length bytes) ≡ b → cond b (found (take n bytes) (drop n bytes)) (no-to 1) ≡ found x r → length x ≡ n
-    go true e k = let z : take n bytes ≡ x = cc in ap length (sym z) ∙ length-take-le n bytes (leb-true n (length bytes) e)
+    go : (b : Bool) → leb n (length bytes) ≡ b → cond b (found (take n bytes) (drop n bytes)) (no-to 1) ≡ found x r
+        → (n ≤ length bytes) × (take n bytes ≡ x) × (drop n bytes ≡ r)
+    go true e k = (leb-true n (length bytes) e, cc, cc)
     go false e k = let z : _≡_ {A = ℕ} 0 1 = cc in absurd (omega arith)
+
+item-length : (n : ℕ) (bytes x r : List ℕ) → item n bytes ≡ found x r → length x ≡ n
+item-length n bytes x r h = let (enough, z, _) = item-came n bytes x r h in ap length (sym z) ∙ length-take-le n bytes enough
 
 -- what each value that is read keeps, all of them keep
 module _ {A : Type 0} (read : List A → Reader A) (Inv : List A → Type 0)
@@ -53,7 +68,7 @@ module _ {A : Type 0} (read : List A → Reader A) (Inv : List A → Type 0)
       many-keeps n (done ++ (a ∷ [])) rest out r (keeps done bytes a rest i e) k
 
 module _ {A : Type 0} (read : List A → Reader A) where
-  many-length : (n : ℕ) (done : List A) (bytes : List ℕ) (out : List A) (r : List ℕ) → many read n done bytes ≡ found out r → length out ≡ length done + n
+  pub many-length : (n : ℕ) (done : List A) (bytes : List ℕ) (out : List A) (r : List ℕ) → many read n done bytes ≡ found out r → length out ≡ length done + n
   unfolding many
   many-length zero done bytes out r h = let z : done ≡ out = cc in omega (arith, ap length z)
   many-length (suc n) done bytes out r h =

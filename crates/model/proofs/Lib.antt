@@ -9,5 +9,6 @@ pub mod ProgramOrder
 pub mod Accepted
 pub mod Numbers
 pub mod Roles
+pub mod Uncacheable
 pub mod Empty
 pub mod Quoted

@@ -1,18 +1,18 @@
 -- Claims about the definitions that a reader may quote.
-use Prim.Native.Nat.{ℕ, suc}
+use Prim.Native.Nat.{ℕ, suc, _+_, _*_, _≤_, _<_}
 use mathlib.Core.Path.{_≡_}
-use mathlib.Core.Bool.{true, _&&_, _||_}
+use mathlib.Core.Bool.{Bool, true, _&&_, _||_}
 use mathlib.Core.List.{List, [], _∷_, _++_, map, List·Memᴰ}
 use mathlib.Core.Logic.{_↔_}
-use lib.ListN.{length, take, replicate}
+use lib.ListN.{length, getD, take, set, replicate}
 use Rattle.base.specs.Lists.{member, distinct}
 use Rattle.base.specs.Lex.{Less}
-use Rattle.model.specs.Execution.{Kind, isLoad, isStore, isAcquire, isRelease, isFence, Execution, operations}
+use Rattle.model.specs.Execution.{Kind, isLoad, isStore, isAcquire, isRelease, isFence, Attribute, WB, UC, WC, attributeNumber, attributeOf, Line, Execution, Operation, operations}
 use Rattle.model.specs.Questions.{at, lineLength, question2, question3, question4, lineOf}
-use Rattle.model.specs.Rules.{rules, keeps, consistent}
+use Rattle.model.specs.Rules.{isRorLV, earlier, link8, inUC, link13, Claim, must, linksOf, rules, linked, keeps, consistent}
 use Rattle.model.specs.ProgramOrder.{marks}
 use Rattle.model.specs.Search.{allowed, prefixes, after}
-use Rattle.model.specs.Calls.{says, refuses, readAll, judgeCall, Legal, searchCall, done, tableCall}
+use Rattle.model.specs.Calls.{says, refuses, readAll, judgeOrder, judgeCall, Legal, searchSaved, searchReply, searchCall, done, tableMarks, tableReply, tableCall}
 use Rattle.model.specs.Accepted.{Each}
 use Rattle.model.specs.Verdict.{inputLimit, wordAllowed, wordSteps, blank, lineFeed, decimal, verdictLines}
 use Rattle.model.specs.Notation.{recordOf}
@@ -78,3 +78,62 @@ abbrev pub EmptyExecution : Type 0
 EmptyExecution =
     (p : ℕ) (lines : List (List ℕ)) → question2 p ≡ true → question3 (length lines) ≡ true → Each LinePasses lines
     → EmptyAnswers (recordOf lines (replicate p []) []) (record { processors = p; lines = map lineOf lines; instructions = []; pairs = [] })
+
+-- Document 02, P6: each attribute is that of its number, and each number that passes question 4 is that of its attribute
+abbrev pub AttributeNumbers : Type 0
+AttributeNumbers =
+    ((a : Attribute) → attributeOf (attributeNumber a) ≡ a)
+    × ((n : ℕ) → question4 n ≡ true → attributeNumber (attributeOf n) ≡ n)
+
+-- the attribute, with domain 0 for every domain
+abbrev pub withoutDomain : Attribute → Attribute
+withoutDomain WB = WB
+withoutDomain (UC d) = UC 0
+withoutDomain WC = WC
+
+abbrev pub lineWithoutDomain : Line → Line
+lineWithoutDomain l = record { attribute = withoutDomain (l .attribute); initial = l .initial }
+
+-- the execution with all its UC lines in one domain
+unfoldable pub oneDomain : Execution → Execution
+oneDomain e = record {
+  processors = e .processors;
+  lines = map lineWithoutDomain (e .lines);
+  instructions = e .instructions;
+  pairs = e .pairs;
+}
+
+-- document 01's rule 13: two UC accesses of one program. All UC lines form one domain.
+unfoldable pub oldLink13 : Execution → Operation → Operation → Bool
+oldLink13 e a b = earlier a b && (inUC e (a .instruction) && inUC e (b .instruction)) && (isRorLV a && isRorLV b)
+
+-- the rules with that one for rule 13, which is element 12 of the list
+unfoldable pub oldRules : Execution → List (List Claim)
+oldRules e = set (rules e) 12 (map must (linksOf e (oldLink13 e)))
+
+-- With one domain, rule 13 is document 01's. No other rule minds the domains, in any execution.
+abbrev pub OneDomain : Type 0
+OneDomain =
+    (e : Execution)
+    → (rules (oneDomain e) ≡ oldRules e)
+    × ((a b : Operation) → (link8 (oneDomain e) a b ≡ link8 e a b) × (link13 (oneDomain e) a b ≡ oldLink13 e a b))
+
+-- the attribute byte of line k of a record: P and the count of lines stand before the lines
+abbrev pub attributeByte : List ℕ → ℕ → ℕ
+attributeByte bytes k = getD bytes (2 + lineLength * k) 0
+
+-- the rules are document 01's, and links and calls are those of the execution with one domain
+pub record OldAnswers (bytes : List ℕ) (e : Execution) : Type 0 where
+  pub rules-are : rules e ≡ oldRules e
+  pub links-are : (a b : Operation) → linked e a b ≡ linked (oneDomain e) a b
+  pub judged : (order : List ℕ) → judgeCall bytes order ≡ judgeOrder (oneDomain e) order
+  pub searched : (buffer : List ℕ) (saved allowance : ℕ)
+      → searchCall bytes buffer saved allowance ≡ searchReply saved buffer (searchSaved (oneDomain e) buffer saved allowance)
+  pub tabled : (table : List ℕ) → tableCall bytes table ≡ tableReply table (tableMarks (oneDomain e) table)
+
+-- P6: 'Old records mean what they meant.' Their attribute bytes are 0 to 2.
+abbrev pub OldRecords : Type 0
+OldRecords =
+    (bytes : List ℕ) (e : Execution) → readAll bytes ≡ says e
+    → ((k : ℕ) → k < length (e .lines) → attributeByte bytes k ≤ 2)
+    → OldAnswers bytes e

@@ -1,8 +1,9 @@
 -- The execution that a record holds: processors, lines of memory, instructions and dependence pairs; instructions and their operations by number.
-use Prim.Native.Nat.{ℕ, suc, _+_, _/_, _%_}
+use Prim.Native.Nat.{ℕ, suc, _+_, _*_, _/_, _%_}
 use mathlib.Core.Bool.{Bool, true, false, cond}
 use mathlib.Core.List.{List, [], _∷_, _++_, map}
 use lib.ListN.{length, getD}
+use lib.Dec.{eqb}
 use Rattle.base.specs.Lists.{any, keep, for, below}
 
 -- The kind of an instruction. Its number in the record is its place in this list.
@@ -81,22 +82,47 @@ isRelease k = kindRow k .releases
 abbrev pub isFence : Kind → Bool
 isFence k = kindRow k .fences
 
--- The attribute of a line. Its number in the record is its place in this list.
+-- The attribute of a line. UC d is uncacheable memory of peripheral domain d.
 pub data Attribute : Type 0 where
-  WB UC WC : Attribute
+  WB WC : Attribute
+  UC : ℕ → Attribute
 
+-- its number in the record
+abbrev pub attributeNumber : Attribute → ℕ
+attributeNumber WB = 0
+attributeNumber (UC d) = 1 + 16 * d
+attributeNumber WC = 2
+
+-- the attribute of a number: 0 is WB, 1 + 16 d is UC d, 2 is WC
 abbrev pub attributeOf : ℕ → Attribute
-attributeOf a = getD (WB ∷ UC ∷ []) a WC
+attributeOf a = cond (eqb a 0) WB (cond (eqb (a % 16) 1) (UC (a / 16)) WC)
+
+-- the attributes that a record may have: domains are 0 to 3
+unfoldable pub attributes : List Attribute
+attributes = WB ∷ WC ∷ map UC (below 4)
 
 abbrev pub isWB : Attribute → Bool
 isWB WB = true
-isWB UC = false
+isWB (UC d) = false
 isWB WC = false
 
+-- UC, of any domain
 abbrev pub isUC : Attribute → Bool
 isUC WB = false
-isUC UC = true
+isUC (UC d) = true
 isUC WC = false
+
+-- UC of one domain, d
+abbrev pub isUCof : ℕ → Attribute → Bool
+isUCof d WB = false
+isUCof d (UC c) = eqb d c
+isUCof d WC = false
+
+-- both are UC, of one domain
+abbrev pub sameDomain : Attribute → Attribute → Bool
+sameDomain WB b = false
+sameDomain (UC d) b = isUCof d b
+sameDomain WC b = false
 
 -- Line k holds addresses 8k to 8k + 7.
 pub record Line : Type 0 where

@@ -1,5 +1,5 @@
 -- Records written as the papers write executions: `recordOf lines programs pairs` gives the bytes.
-use Prim.Native.Nat.{ℕ}
+use Prim.Native.Nat.{ℕ, _+_, _*_}
 use mathlib.Core.List.{List, [], _∷_, _++_}
 use lib.ListN.{length, replicate}
 use Rattle.base.specs.Lists.{for}
@@ -23,6 +23,10 @@ uc = zeros 1
 
 abbrev pub wc : List ℕ
 wc = zeros 2
+
+-- of domain d; `uc` is of domain 0
+abbrev pub uc-of : ℕ → List ℕ
+uc-of d = zeros (1 + 16 * d)
 
 -- an entry with one byte of data
 abbrev pub entry : ℕ → ℕ → ℕ → ℕ → List ℕ

@@ -3,7 +3,7 @@ use Prim.Native.Nat.{ℕ, _+_}
 use mathlib.Core.List.{List, [], _∷_, _++_, map}
 use lib.ListN.{take, drop, replicate}
 use Rattle.base.specs.Lists.{for, below}
-use Rattle.model.specs.Notation.{x, wb, uc, wc, zeros, ld, st, mf, entry, recordOf}
+use Rattle.model.specs.Notation.{x, wb, uc, wc, uc-of, zeros, ld, st, mf, entry, recordOf}
 use Rattle.model.specs.Rows.{Row, judged-no, searched-no, tabled-no, cut}
 use Rattle.model.specs.PaperTable.{k1, k2, k11-pair}
 use Rattle.model.specs.RequestTable.{nothing}
@@ -19,6 +19,10 @@ passes bytes = judged-no bytes [] 16
 -- one processor, one line, one instruction
 abbrev only : List ℕ → List ℕ
 only i = recordOf (wb ∷ []) ((i ∷ []) ∷ []) []
+
+-- these lines and one instruction
+abbrev on : List (List ℕ) → List ℕ
+on lines = recordOf lines ((ld x 0 ∷ []) ∷ []) []
 
 -- one line and these programs
 abbrev programs : List (List (List ℕ)) → List ℕ
@@ -50,9 +54,14 @@ questionTable =
     ∷ refused (1 ∷ 0 ∷ []) 3
     ∷ refused (1 ∷ 9 ∷ []) 3
     ∷ passes (recordOf (replicate 8 wb) ((ld 63 0 ∷ []) ∷ []) [])
-    -- 4: attributes 0 to 2, of each line
-    ∷ refused (recordOf (wb ∷ zeros 3 ∷ []) ((ld x 0 ∷ []) ∷ []) []) 4
-    ∷ passes (recordOf (wb ∷ uc ∷ wc ∷ []) ((ld x 0 ∷ []) ∷ []) [])
+    -- 4: attributes 0, 1, 2, 17, 33 and 49, of each line
+    ∷ refused (on (wb ∷ zeros 3 ∷ [])) 4
+    ∷ refused (on (zeros 16 ∷ [])) 4
+    ∷ refused (on (zeros 18 ∷ [])) 4
+    ∷ refused (on (zeros 50 ∷ [])) 4
+    ∷ refused (on (uc-of 4 ∷ [])) 4
+    ∷ refused (on (zeros 255 ∷ [])) 4
+    ∷ passes (on (wb ∷ uc ∷ wc ∷ zeros 17 ∷ zeros 33 ∷ zeros 49 ∷ []))
     -- 5: 40 instructions over all
     ∷ refused (programs (replicate 41 (ld x 0) ∷ [])) 5
     ∷ refused (programs (replicate 40 (ld x 0) ∷ (ld x 0 ∷ []) ∷ [])) 5

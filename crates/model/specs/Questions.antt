@@ -1,11 +1,11 @@
 -- The record is walked left to right: question 1 before each item, then the item's own questions. The first 'no' gives its number.
 use Prim.Native.Nat.{ℕ, zero, suc, _+_, _*_, _%_}
 use mathlib.Core.Bool.{Bool, true, false, not, cond, _&&_, _||_}
-use mathlib.Core.List.{List, [], _∷_, _++_}
+use mathlib.Core.List.{List, [], _∷_, _++_, map}
 use lib.ListN.{length, getD, take, drop}
 use lib.Dec.{eqb, leb, ltb}
 use Rattle.base.specs.Lists.{all, member}
-use Rattle.model.specs.Execution.{Kind, kindOf, isStore, isFence, mf, attributeOf, Line, Instruction, Execution, operationCount}
+use Rattle.model.specs.Execution.{Kind, kindOf, isStore, isFence, mf, attributeNumber, attributeOf, attributes, Line, Instruction, Execution, operationCount}
 
 -- What a walk comes to: the number of the first question answered 'no', or a value and the bytes after it.
 pub data Found (A : Type 0) : Type 0 where
@@ -67,9 +67,9 @@ question2 p = leb 1 p && leb p 8
 unfoldable pub question3 : ℕ → Bool
 question3 n = leb 1 n && leb n 8
 
--- 4: is the attribute 0 to 2?
+-- 4: is the attribute 0, 1, 2, 17, 33 or 49 (document 02, P6)?
 unfoldable pub question4 : ℕ → Bool
-question4 a = leb a 2
+question4 a = member (map attributeNumber attributes) a
 
 -- 5: are there at most 40 instructions with this count added?
 unfoldable pub question5 : List Instruction → ℕ → Bool

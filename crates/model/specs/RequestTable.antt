@@ -3,16 +3,21 @@ use Prim.Native.Nat.{ℕ}
 use mathlib.Core.Bool.{true}
 use mathlib.Core.List.{List, [], _∷_, _++_}
 use mathlib.Core.Option.{some}
-use Rattle.model.specs.Search.{allowed}
-use Rattle.model.specs.Calls.{says, legal}
+use Rattle.model.specs.Search.{allowed, forbidden}
+use Rattle.model.specs.Calls.{says, legal, breaks}
 use Rattle.model.specs.Courses.{proper, other}
 use Rattle.model.specs.Verdict.{wordAllowed, wordSteps}
-use Rattle.model.specs.Notation.{wb, recordOf}
+use Rattle.model.specs.Notation.{x, y, wb, uc, uc-of, ld, st, st-rel, recordOf}
+use Rattle.model.specs.RuleTable.{one, two}
 use Rattle.model.specs.Rows.{Row, lent, judged, searched, tabled, printed, followed}
 
 -- P2: two processors, and nothing in their programs
 unfoldable pub nothing : List ℕ
 nothing = recordOf (wb ∷ []) ([] ∷ [] ∷ []) []
+
+-- P6: on the lines of x and y, ld x sees 1, st y=1; ld y sees 1, st x=1
+abbrev boards : List ℕ → List ℕ → List ℕ
+boards lineX lineY = two lineX lineY (ld x 1 ∷ st y 1 ∷ []) (ld y 1 ∷ st x 1 ∷ [])
 
 unfoldable pub requestTable : List Row
 requestTable =
@@ -35,4 +40,24 @@ requestTable =
       accepted = true;
       refused = true;
     })
+    -- P6: two UC accesses of one program in one domain are ordered by rule 13, in two they are not: judge, search and table
+    ∷ judged (one (uc-of 1) (uc-of 1) (ld x 0 ∷ ld y 0 ∷ [])) (1 ∷ 0 ∷ []) (breaks 13)
+    ∷ judged (one (uc-of 1) (uc-of 2) (ld x 0 ∷ ld y 0 ∷ [])) (1 ∷ 0 ∷ []) legal
+    ∷ judged (one uc (uc-of 3) (ld x 0 ∷ ld y 0 ∷ [])) (1 ∷ 0 ∷ []) legal
+    ∷ judged (one (uc-of 3) (uc-of 3) (ld x 0 ∷ st y 1 ∷ [])) (1 ∷ 0 ∷ 2 ∷ []) (breaks 13)
+    ∷ judged (one (uc-of 3) (uc-of 2) (ld x 0 ∷ st y 1 ∷ [])) (1 ∷ 0 ∷ 2 ∷ []) legal
+    ∷ judged (one (uc-of 2) (uc-of 2) (st x 1 ∷ ld y 0 ∷ [])) (2 ∷ 0 ∷ 1 ∷ []) (breaks 13)
+    ∷ judged (one (uc-of 2) (uc-of 1) (st x 1 ∷ ld y 0 ∷ [])) (2 ∷ 0 ∷ 1 ∷ []) legal
+    ∷ judged (one (uc-of 1) (uc-of 1) (st x 1 ∷ st y 1 ∷ [])) (2 ∷ 0 ∷ 1 ∷ 3 ∷ []) (breaks 13)
+    ∷ judged (one (uc-of 1) uc (st x 1 ∷ st y 1 ∷ [])) (2 ∷ 0 ∷ 1 ∷ 3 ∷ []) legal
+    ∷ searched (boards uc uc) [] 1000 forbidden 0 []
+    ∷ searched (boards (uc-of 2) (uc-of 2)) [] 1000 forbidden 0 []
+    ∷ searched (boards uc (uc-of 1)) [] 1000 allowed 8 (1 ∷ 2 ∷ 3 ∷ 4 ∷ 5 ∷ 7 ∷ 6 ∷ 0 ∷ [])
+    ∷ tabled (one (uc-of 3) (uc-of 3) (ld x 0 ∷ ld y 0 ∷ [])) (0 ∷ 1 ∷ 0 ∷ 0 ∷ [])
+    ∷ tabled (one (uc-of 3) (uc-of 2) (ld x 0 ∷ ld y 0 ∷ [])) (0 ∷ 0 ∷ 0 ∷ 0 ∷ [])
+    -- P6: rules 9, 10, 12 and 14 ignore the domain
+    ∷ judged (one (uc-of 3) wb (st x 1 ∷ st x 2 ∷ [])) (0 ∷ 2 ∷ 3 ∷ 1 ∷ []) (breaks 9)
+    ∷ judged (two (uc-of 3) wb (st x 1 ∷ []) (st x 2 ∷ [])) (0 ∷ 1 ∷ 3 ∷ 5 ∷ 2 ∷ 4 ∷ []) (breaks 10)
+    ∷ judged (two (uc-of 3) wb (st-rel x 1 ∷ []) (ld y 0 ∷ [])) (0 ∷ 1 ∷ 3 ∷ 2 ∷ []) legal
+    ∷ judged (one (uc-of 3) wb (st x 1 ∷ ld x 1 ∷ [])) (0 ∷ 2 ∷ 1 ∷ []) (breaks 14)
     ∷ []

@@ -12,7 +12,7 @@ use Rattle.model.specs.Rows.{Row, judged, searched, searched-no, tabled,
 use Rattle.model.specs.PaperTable.{k1, k2}
 
 -- one program on the lines of x and y
-abbrev one : List ℕ → List ℕ → List (List ℕ) → List ℕ
+abbrev pub one : List ℕ → List ℕ → List (List ℕ) → List ℕ
 one lineX lineY program = recordOf (lineX ∷ lineY ∷ []) (program ∷ []) []
 
 -- one program with the pair 0 1
@@ -20,7 +20,7 @@ abbrev one-pair : List (List ℕ) → List ℕ
 one-pair program = recordOf (wb ∷ wb ∷ []) (program ∷ []) ((0, 1) ∷ [])
 
 -- two programs
-abbrev two : List ℕ → List ℕ → List (List ℕ) → List (List ℕ) → List ℕ
+abbrev pub two : List ℕ → List ℕ → List (List ℕ) → List (List ℕ) → List ℕ
 two lineX lineY first second = recordOf (lineX ∷ lineY ∷ []) (first ∷ second ∷ []) []
 
 -- Two bytes at x: two bytes are written and one of them again, then both are read

@@ -6,7 +6,7 @@ use mathlib.Core.Option.{Option, none, some}
 use lib.ListN.{getD}
 use lib.Dec.{eqb, leb, ltb}
 use Rattle.base.specs.Lists.{any, keep, when, for, count, below, member}
-use Rattle.model.specs.Execution.{isAcquire, isRelease, isWB, isUC, Instruction, Execution, Role, R, LV, F, RV, hasRoleR, hasRoleLV, hasRoleF, hasRoleRV, numberOf, Operation, operations, allOperations, loads, stores, everyProcessor, attributeAt, initialByte}
+use Rattle.model.specs.Execution.{isAcquire, isRelease, isWB, isUC, sameDomain, Instruction, Execution, Role, R, LV, F, RV, hasRoleR, hasRoleLV, hasRoleF, hasRoleRV, numberOf, Operation, operations, allOperations, loads, stores, everyProcessor, attributeAt, initialByte}
 
 -- 'A before B' as a prefix (document 01: beginning) settles it: A stands in it, and B stands later or not at all
 unfoldable pub before : List ℕ → ℕ → ℕ → Bool
@@ -120,9 +120,13 @@ module _ (e : Execution) where
   abbrev pub inUC : Instruction → Bool
   inUC i = isUC (attributeAt e i)
 
-  -- 13 UC order: two UC accesses of one program: R or LV of the first before R or LV of the second. All UC lines form one domain.
+  -- two UC accesses in one domain
+  abbrev pub inOneDomain : Instruction → Instruction → Bool
+  inOneDomain i j = sameDomain (attributeAt e i) (attributeAt e j)
+
+  -- 13 UC order: two UC accesses of one program in one domain (document 02, P6): R or LV of the first before R or LV of the second
   unfoldable pub link13 : Operation → Operation → Bool
-  link13 a b = earlier a b && (inUC (a .instruction) && inUC (b .instruction)) && (isRorLV a && isRorLV b)
+  link13 a b = earlier a b && inOneDomain (a .instruction) (b .instruction) && (isRorLV a && isRorLV b)
 
 -- What a rule asks of an order. Each rule is a list of claims.
 

@@ -1,5 +1,6 @@
 -- The laws of this crate, open to the crates above it.
 pub mod Counts
+pub mod Attributes
 pub mod RoleNumbers
 pub mod Eights
 pub mod Items

@@ -56,5 +56,5 @@ roleProcessor (RV q) = q
 -- an attribute of the code as that of the model
 abbrev pub attributeMeant : Attribute → model.Attribute
 attributeMeant WB = model.WB
-attributeMeant UC = model.UC
+attributeMeant (UC d) = model.UC d
 attributeMeant WC = model.WC

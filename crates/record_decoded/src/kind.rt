@@ -3,6 +3,7 @@ ghost use mathlib.Core.Path.{_≡_};
 ghost use Prim.Native.Nat.{ℕ, _<_, _≤_};
 ghost use lib.ListN.{length, getD};
 ghost use Rattle.model.specs.Execution.{F, kindOf, kindRow, attributeOf, isLoad, isStore, isRelease, isFence, roles, remotesAt, numberFrom};
+ghost use Rattle.model.specs.Questions.{question4};
 ghost use Rattle.record_decoded.specs.Kinds.{meant, RowNumber, roleMeant, roleProcessor, roleNumbered, attributeMeant};
 use crate::types::OperationNo;
 use crate::types::wide16;
@@ -199,19 +200,46 @@ pub fn operation_count(k: Kind, processors: usize) -> usize
     }
 }
 
+// The attribute of a line; UC with its peripheral domain.
 pub enum Attribute {
     WB,
-    UC,
+    UC(u8),
     WC,
 }
 
-// The attribute of a number from 0 to 2.
+// The numbers of the attributes; UC d has NUMBER_UC + PER_DOMAIN * d, with d below DOMAINS.
+const NUMBER_WB: u8 = 0;
+
+const NUMBER_UC: u8 = 1;
+
+const NUMBER_WC: u8 = 2;
+
+const PER_DOMAIN: u8 = 16;
+
+const DOMAINS: u8 = 4;
+
+// Whether a number is that of an attribute.
+pub fn is_attribute(a: u8) -> bool
+    ensures { λ r. ⌜ r ≡ question4 a ⌝ }
+{
+    let domain = a / PER_DOMAIN;
+    match a % PER_DOMAIN {
+        NUMBER_WB => domain == 0,
+        NUMBER_UC => domain < DOMAINS,
+        NUMBER_WC => domain == 0,
+        _ => false,
+    }
+}
+
+// The attribute of a number.
 pub fn attribute_of(a: u8) -> Attribute
     ensures { λ r. ⌜ attributeMeant r ≡ attributeOf a ⌝ }
 {
-    match a {
-        0 => Attribute::WB,
-        1 => Attribute::UC,
-        _ => Attribute::WC,
+    if a == NUMBER_WB {
+        return Attribute::WB;
     }
+    if a % PER_DOMAIN == NUMBER_UC {
+        return Attribute::UC(a / PER_DOMAIN);
+    }
+    Attribute::WC
 }

@@ -74,13 +74,13 @@ module _ (part : List ℕ) (at : ℕ) where
   line-short h = fails (rw (item-short 9 at part h))
 
   module _ (room : at + 9 ≤ length part) where
-    pub line-unknown : 2 < getD part at 0 → Answered (readLine (drop at part)) part at 9 (Fail 4) (lineOf (take 9 (drop at part)))
-    unfolding readLine next ask question4
-    line-unknown h = fails (rw (item-there 9 at part room, item-first 9 at part (omega arith), lt-leb (getD part at 0) 2 h))
+    pub line-unknown : question4 (getD part at 0) ≡ false → Answered (readLine (drop at part)) part at 9 (Fail 4) (lineOf (take 9 (drop at part)))
+    unfolding readLine next ask
+    line-unknown h = fails (rw (item-there 9 at part room, item-first 9 at part (omega arith), h))
 
-    pub line-passes : getD part at 0 ≤ 2 → Answered (readLine (drop at part)) part at 9 (Pass 9) (lineOf (take 9 (drop at part)))
-    unfolding readLine next ask question4
-    line-passes h = passes (rw (item-there 9 at part room, item-first 9 at part (omega arith), le-leb (getD part at 0) 2 h)) room
+    pub line-passes : question4 (getD part at 0) ≡ true → Answered (readLine (drop at part)) part at 9 (Pass 9) (lineOf (take 9 (drop at part)))
+    unfolding readLine next ask
+    line-passes h = passes (rw (item-there 9 at part room, item-first 9 at part (omega arith), h)) room
 
 -- the count of lines, and its question
 module _ (part : List ℕ) where

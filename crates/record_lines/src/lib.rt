@@ -6,6 +6,7 @@ ghost use lib.ListN.{length, take, drop};
 ghost use Rattle.model.specs.Questions.{lineLength, lineOf, readLine, readLines, many};
 ghost use Rattle.record_decoded.specs.Decoded.{linesOf};
 ghost use Rattle.record_decoded.specs.Steps.{Answered, ComesTo};
+use record_decoded::kind::is_attribute;
 use record_decoded::types::Asked;
 use record_decoded::types::LINE_LENGTH;
 use record_decoded::types::Lines;
@@ -36,7 +37,7 @@ fn line_question(part: &[u8], at: usize) -> Asked
     if part.len() - at < LINE_LENGTH {
         return Asked::Fail(1);
     }
-    if 2 < part[at] {
+    if !is_attribute(part[at]) {
         return Asked::Fail(4);
     }
     Asked::Pass(LINE_LENGTH)

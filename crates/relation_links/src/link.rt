@@ -12,13 +12,13 @@ use record_decoded::kind::ROLE_LV;
 use record_decoded::kind::ROLE_R;
 use record_decoded::kind::ROLE_RV;
 use relation_marks::table::ACQUIRE;
+use relation_marks::table::DOMAIN;
 use relation_marks::table::FENCE;
 use relation_marks::table::LINK_MARKS;
 use relation_marks::table::OVERLAP;
 use relation_marks::table::PAIR;
 use relation_marks::table::RELEASE;
 use relation_marks::table::SAME;
-use relation_marks::table::UNCACHEABLE;
 use relation_marks::table::both;
 use relation_marks::table::either;
 use relation_marks::table::has_mark;
@@ -95,7 +95,7 @@ const RULE_MARKS: [u16; RULES as usize] = [
     SAME,
     SAME,
     SAME,
-    UNCACHEABLE,
+    DOMAIN,
 ];
 
 // The mark that a rule asks for.

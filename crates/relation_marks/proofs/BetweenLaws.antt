@@ -9,7 +9,7 @@ use lib.Dec.{eqb, ltb}
 use Rattle.base.specs.Lists.{member}
 use Rattle.base.specs.Bits.{packed, packedOn}
 use Rattle.model.specs.Execution as model
-use Rattle.model.specs.Execution.{kindOf, isLoad, isStore, isRelease, isWB, isUC, noLine, lineAt, attributeAt}
+use Rattle.model.specs.Execution.{kindOf, isLoad, isStore, isRelease, isWB, isUC, sameDomain, noLine, lineAt, attributeAt}
 use Rattle.model.specs.ProgramOrder.{marks}
 use Rattle.model.specs.Rules.{conflict}
 use Rattle.record_decoded.specs.declared.types.Execution.{Execution}
@@ -18,11 +18,11 @@ use Rattle.relation_marks.specs.Marks.{sharesByte, givenPair, earlierOf,
 use Rattle.relation_marks.proofs.MarkLaws.{overlap-shares}
 
 -- put together from the highest bit down
-pub put-together : (same own earlier overlaps given : Bool) (a b : model.Kind) (of-a of-b : model.Attribute) {r program overlap-mark pair uncacheable memory : ℕ}
+pub put-together : (same own earlier overlaps given : Bool) (a b : model.Kind) (of-a of-b : model.Attribute) {r program overlap-mark pair domain memory : ℕ}
     → r ≡ cond same 1 0 + 2 * program
     → program ≡ packedOn overlap-mark ((earlier && member (marks a b) 2) ∷ (earlier && member (marks a b) 3) ∷ (earlier && member (marks a b) 4) ∷ [])
-    → overlap-mark ≡ cond (earlier && overlaps) 1 0 + 2 * pair → pair ≡ cond given 1 0 + 2 * uncacheable
-    → uncacheable ≡ cond (earlier && (isUC of-a && isUC of-b)) 1 0 + 2 * memory
+    → overlap-mark ≡ cond (earlier && overlaps) 1 0 + 2 * pair → pair ≡ cond given 1 0 + 2 * domain
+    → domain ≡ cond (earlier && sameDomain of-a of-b) 1 0 + 2 * memory
     → memory ≡ packed (
     (isStore a && isStore b && (not same && overlaps && ((isWB of-a || isUC of-a) && (isWB of-b || isUC of-b))))
     ∷ (isStore a && isLoad b && (isUC of-a && (own && overlaps)))
@@ -45,10 +45,10 @@ unfolding packedOn
 unrelated-together true own earlier overlaps given a b of-a of-b n h k = absurd (false≢true (sym n))
 unrelated-together false own true overlaps given a b of-a of-b n h k = absurd (false≢true (sym n))
 unrelated-together false own false overlaps true a b of-a of-b {r} {memory} n h k =
-    put-together false own false overlaps true a b of-a of-b {r = r} {program = 2 * (2 * (2 * (2 * (1 + 2 * (2 * memory)))))} {overlap-mark = 2 * (1 + 2 * (2 * memory))} {pair = 1 + 2 * (2 * memory)} {uncacheable = 2 * memory} {memory = memory}
+    put-together false own false overlaps true a b of-a of-b {r = r} {program = 2 * (2 * (2 * (2 * (1 + 2 * (2 * memory)))))} {overlap-mark = 2 * (1 + 2 * (2 * memory))} {pair = 1 + 2 * (2 * memory)} {domain = 2 * memory} {memory = memory}
     (omega arith) (omega arith) (omega arith) (omega arith) (omega arith) k
 unrelated-together false own false overlaps false a b of-a of-b {r} {memory} n h k =
-    put-together false own false overlaps false a b of-a of-b {r = r} {program = 2 * (2 * (2 * (2 * (2 * (2 * memory)))))} {overlap-mark = 2 * (2 * (2 * memory))} {pair = 2 * (2 * memory)} {uncacheable = 2 * memory} {memory = memory}
+    put-together false own false overlaps false a b of-a of-b {r = r} {program = 2 * (2 * (2 * (2 * (2 * (2 * memory)))))} {overlap-mark = 2 * (2 * (2 * memory))} {pair = 2 * (2 * memory)} {domain = 2 * memory} {memory = memory}
     (omega arith) (omega arith) (omega arith) (omega arith) (omega arith) k
 
 module _ (x : Execution) (m n : ℕ) where

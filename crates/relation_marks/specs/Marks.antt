@@ -6,9 +6,9 @@ use lib.ListN.{getD}
 use lib.Dec.{eqb, leb, ltb}
 use Rattle.base.specs.Lists.{any, count, member}
 use Rattle.base.specs.Bits.{packed}
-use Rattle.model.specs.Execution.{Kind, Attribute, isLoad, isStore, isRelease, isWB, isUC, Instruction, Execution}
+use Rattle.model.specs.Execution.{Kind, Attribute, isLoad, isStore, isRelease, isWB, isUC, sameDomain, Instruction, Execution}
 use Rattle.model.specs.ProgramOrder.{marks}
-use Rattle.model.specs.Rules.{overlap, inWB, inUC, conflict}
+use Rattle.model.specs.Rules.{overlap, inWB, inUC, inOneDomain, conflict}
 
 -- the marks of rules 2, 3 and 4, by the table of rule marks
 unfoldable pub programMarks : Kind → Kind → ℕ
@@ -41,7 +41,7 @@ earlierOf i j = eqb (i .processor) (j .processor) && ltb (i .number) (j .number)
 unfoldable pub givenPair : List (ℕ × ℕ) → ℕ → ℕ → Bool
 givenPair pairs m n = any (λ p. eqb (p .0) m && eqb (p .1) n) pairs
 
--- The marks in the order of their bits: one instruction; rules 2, 3 and 4 by the kinds; a shared byte; a dependence pair; UC memory of both;
+-- The marks in the order of their bits: one instruction; rules 2, 3 and 4 by the kinds; a shared byte; a dependence pair; rule 13: UC memory of one domain;
 -- rules 9 and 10: conflicting stores; rule 14: a UC store and an overlapping load of its processor; rule 12: one st.rel to WB.
 unfoldable pub marksOf : Execution → Instruction → Instruction → List Bool
 marksOf e i j =
@@ -51,7 +51,7 @@ marksOf e i j =
     ∷ (earlierOf i j && member (marks (i .kind) (j .kind)) 4)
     ∷ (earlierOf i j && overlap i j)
     ∷ givenPair (e .pairs) (i .number) (j .number)
-    ∷ (earlierOf i j && (inUC e i && inUC e j))
+    ∷ (earlierOf i j && inOneDomain e i j)
     ∷ (isStore (i .kind) && isStore (j .kind) && conflict e i j)
     ∷ (isStore (i .kind) && isLoad (j .kind) && (inUC e i && (eqb (i .processor) (j .processor) && overlap i j)))
     ∷ (eqb (i .number) (j .number) && (isStore (i .kind) && (isRelease (i .kind) && inWB e i)))
@@ -70,7 +70,7 @@ marksBy same own earlier overlaps given a b of-a of-b =
     ∷ (earlier && member (marks a b) 4)
     ∷ (earlier && overlaps)
     ∷ given
-    ∷ (earlier && (isUC of-a && isUC of-b))
+    ∷ (earlier && sameDomain of-a of-b)
     ∷ (isStore a && isStore b && (not same && overlaps && ((isWB of-a || isUC of-a) && (isWB of-b || isUC of-b))))
     ∷ (isStore a && isLoad b && (isUC of-a && (own && overlaps)))
     ∷ (same && (isStore a && (isRelease a && isWB of-a)))

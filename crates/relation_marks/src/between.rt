@@ -15,6 +15,7 @@ use crate::memory::attribute_in;
 use crate::memory::is_pair;
 use crate::memory::is_uc;
 use crate::memory::is_wb;
+use crate::memory::same_domain;
 use crate::table::ACQUIRE;
 use crate::table::CONFLICT;
 use crate::table::FENCE;
@@ -106,11 +107,8 @@ fn marks_by(
     if !either(same, earlier) {
         return unrelated_marks(memory, given);
     }
-    let uncacheable = with_mark(
-        memory,
-        both(earlier, both(is_uc(of_first), is_uc(of_second))),
-    );
-    let pair = with_mark(uncacheable, given);
+    let domain = with_mark(memory, both(earlier, same_domain(of_first, of_second)));
+    let pair = with_mark(domain, given);
     let overlap = with_mark(pair, both(earlier, overlaps));
     let program = with_program_marks(overlap, earlier, first, second);
     with_mark(program, same)

@@ -2,7 +2,7 @@
 ghost use mathlib.Core.Path.{_≡_};
 ghost use Prim.Native.Nat.{_/_, _≤_};
 ghost use lib.ListN.{getD};
-ghost use Rattle.model.specs.Execution.{noLine, isWB, isUC};
+ghost use Rattle.model.specs.Execution.{noLine, isWB, isUC, isUCof, sameDomain};
 ghost use Rattle.record_decoded.specs.Kinds.{attributeMeant};
 ghost use Rattle.record_decoded.specs.Decoded.{linesOf, pairsOf};
 ghost use Rattle.relation_marks.specs.Marks.{givenPair};
@@ -33,7 +33,7 @@ pub fn is_wb(a: Attribute) -> bool
 {
     match a {
         Attribute::WB => true,
-        Attribute::UC => false,
+        Attribute::UC(d) => false,
         Attribute::WC => false,
     }
 }
@@ -43,7 +43,29 @@ pub fn is_uc(a: Attribute) -> bool
 {
     match a {
         Attribute::WB => false,
-        Attribute::UC => true,
+        Attribute::UC(d) => true,
+        Attribute::WC => false,
+    }
+}
+
+// UC of a given domain.
+fn is_uc_of(d: u8, a: Attribute) -> bool
+    ensures { λ r. ⌜ r ≡ isUCof d (attributeMeant a) ⌝ }
+{
+    match a {
+        Attribute::WB => false,
+        Attribute::UC(c) => d == c,
+        Attribute::WC => false,
+    }
+}
+
+// Both UC, of one domain.
+pub fn same_domain(a: Attribute, b: Attribute) -> bool
+    ensures { λ r. ⌜ r ≡ sameDomain (attributeMeant a) (attributeMeant b) ⌝ }
+{
+    match a {
+        Attribute::WB => false,
+        Attribute::UC(d) => is_uc_of(d, b),
         Attribute::WC => false,
     }
 }

@@ -9,7 +9,7 @@ use record_decoded::kind::table_column;
 use record_decoded::kind::table_row;
 use record_decoded::types::wide;
 
-// The marks: one instruction; rules 2, 3 and 4 by the kinds; a shared byte; a dependence pair; UC memory of both; conflicting stores; a UC store and an
+// The marks: one instruction; rules 2, 3 and 4 by the kinds; a shared byte; a dependence pair; UC memory of one domain; conflicting stores; a UC store and an
 // overlapping load of its processor; one st.rel to WB.
 pub const SAME: u16 = 1;
 
@@ -23,7 +23,7 @@ pub const OVERLAP: u16 = 16;
 
 pub const PAIR: u16 = 32;
 
-pub const UNCACHEABLE: u16 = 64;
+pub const DOMAIN: u16 = 64;
 
 pub const CONFLICT: u16 = 128;
 
@@ -32,7 +32,7 @@ pub const BYPASS: u16 = 256;
 pub const ATOMIC: u16 = 512;
 
 // The marks that some link asks for, and those that a link to an RV asks for.
-pub const LINK_MARKS: u16 = SAME + ACQUIRE + RELEASE + FENCE + OVERLAP + PAIR + UNCACHEABLE;
+pub const LINK_MARKS: u16 = SAME + ACQUIRE + RELEASE + FENCE + OVERLAP + PAIR + DOMAIN;
 
 pub const REMOTE_LINK_MARKS: u16 = SAME + ACQUIRE + RELEASE + FENCE;
 

@@ -15,7 +15,7 @@ use Rattle.base.specs.Lex.{lexLess}
 use Rattle.base.proofs.Bools.{beq-same, and-parts, is-false}
 use Rattle.base.proofs.Lists.{member-in, distinct-in}
 use Rattle.base.proofs.Tests.{all-at}
-use Rattle.model.specs.Execution.{roles, placeAmong, remotesAt, operationCount, operations, operationsOf, allOperations, loads, stores, lineAt, attributeAt}
+use Rattle.model.specs.Execution.{roles, placeAmong, remotesAt, operationCount, operations, operationsOf, allOperations, loads, stores, attributes, lineAt, attributeAt}
 use Rattle.model.specs.Questions.{next, item, byte, ask, question2, question3, question4, question5, question6, question7, question8, question9, question11, question12, question15, many, lineOf, readLine, readLines, instructionOf, readInstruction, readProgram, readPrograms, readInstructions, readPairs, readRecord}
 use Rattle.model.specs.ProgramOrder.{ruleMarks, marks}
 use Rattle.model.specs.Rules.{before, addresses, accesses, overlap, link1, link2, link3, link4, link5, link6, link7, paired, link8, link13, linksOf, conflict, forConflicts, rule9, rule10, sightOf, rule11, rule12, rule14, rules, linked, byteOf, latest, local, byteRead, broken, keeps, consistent}
@@ -77,7 +77,7 @@ places-are n xs places few different t = record { few = few; different = differe
 
 -- the record is accepted, and the arrays hold its execution
 accepts : readAll k2 ≡ says (executionOf k2Arrays)
-unfolding all for count below member roles operationCount next item byte ask question2 question3 question4 question5 question6 question7 question8 question9 question11 question12 question15 many lineOf readLine readLines instructionOf readInstruction readProgram readPrograms readInstructions readPairs readRecord answerOf readAll zeros recordOf k2 eight decodedLine linesOf instructionAt instructionsOf pairsOf executionOf k2Arrays
+unfolding all for count below member attributes roles operationCount next item byte ask question2 question3 question4 question5 question6 question7 question8 question9 question11 question12 question15 many lineOf readLine readLines instructionOf readInstruction readProgram readPrograms readInstructions readPairs readRecord answerOf readAll zeros recordOf k2 eight decodedLine linesOf instructionAt instructionsOf pairsOf executionOf k2Arrays
 accepts = refl
 
 -- the table of operations, and the marks

@@ -1,5 +1,5 @@
 -- Those of memory and of a pair; else the marks packed, from the highest bit down.
-use mathlib.Core.Path.{refl, sym, ap, ap₂, _∙_}
+use mathlib.Core.Path.{refl, sym, ap, _∙_}
 use mathlib.Core.Bool.{Bool, _&&_}
 use borrow.Author.Tests.{not-true}
 use Rattle.record_decoded.specs.Kinds.{meant, attributeMeant}
@@ -24,17 +24,11 @@ returns c =
     unrelated-together (g .same) (g .own) (g .earlier) (g .overlaps) (g .given) (meant (g .first)) (meant (g .second)) (attributeMeant (g .of-first)) (attributeMeant (g .of-second))
     (sym (c .before .before .either .ensures) ∙ not-true (c .before .before .either .result) (c .before .if1 .taken)) (c .unrelated-marks .ensures) (c .before .before .before .memory-marks .ensures .0)
 
-is-uc-requires : tie.Need-is-uc-requires
-is-uc-requires c κs = search needs
-
-is-uc-requires-2 : tie.Need-is-uc-requires-2
-is-uc-requires-2 c κs = search needs
+same-domain-requires : tie.Need-same-domain-requires
+same-domain-requires c κs = search needs
 
 both-requires : tie.Need-both-requires
 both-requires c κs = search needs
-
-both-requires-2 : tie.Need-both-requires-2
-both-requires-2 c κs = search needs
 
 with-mark-requires : tie.Need-with-mark-requires
 with-mark-requires c κs = search needs
@@ -42,8 +36,8 @@ with-mark-requires c κs = search needs
 with-mark-requires-2 : tie.Need-with-mark-requires-2
 with-mark-requires-2 c κs = search needs
 
-both-requires-3 : tie.Need-both-requires-3
-both-requires-3 c κs = search needs
+both-requires-2 : tie.Need-both-requires-2
+both-requires-2 c κs = search needs
 
 with-mark-requires-3 : tie.Need-with-mark-requires-3
 with-mark-requires-3 c κs = search needs
@@ -56,14 +50,14 @@ with-mark-requires-4 c κs = search needs
 
 returns-2 : tie.Need-returns-2
 returns-2 c =
-    let g = c .before .before .before .before .before .before .before .before .before .before .before .before .before .args in
+    let g = c .before .before .before .before .before .before .before .before .before .before .before .args in
     put-together (g .same) (g .own) (g .earlier) (g .overlaps) (g .given) (meant (g .first)) (meant (g .second)) (attributeMeant (g .of-first)) (attributeMeant (g .of-second))
     (c .with-mark4 .ensures .0) (c .before .with-program-marks .ensures .0)
-    (mark-more (c .before .before .with-mark3 .ensures .0) (c .before .before .before .both3 .ensures) refl)
+    (mark-more (c .before .before .with-mark3 .ensures .0) (c .before .before .before .both2 .ensures) refl)
     (c .before .before .before .before .with-mark2 .ensures .0)
     (mark-more (c .before .before .before .before .before .with-mark .ensures .0)
-    (c .before .before .before .before .before .before .both2 .ensures ∙ ap (λ (t : Bool). g .earlier && t) (c .before .before .before .before .before .before .before .both .ensures ∙ ap₂ _&&_ (c .before .before .before .before .before .before .before .before .before .is-uc .ensures) (c .before .before .before .before .before .before .before .before .is-uc2 .ensures))) refl)
-    (c .before .before .before .before .before .before .before .before .before .before .before .before .memory-marks .ensures .0)
+    (c .before .before .before .before .before .before .both .ensures ∙ ap (λ (t : Bool). g .earlier && t) (c .before .before .before .before .before .before .before .same-domain .ensures)) refl)
+    (c .before .before .before .before .before .before .before .before .before .before .memory-marks .ensures .0)
 
 pub marks-by-spec : {M : Type 1} → statement M
 marks-by-spec =
@@ -73,13 +67,11 @@ marks-by-spec =
     either-requires
     unrelated-marks-requires
     returns
-    is-uc-requires
-    is-uc-requires-2
+    same-domain-requires
     both-requires
-    both-requires-2
     with-mark-requires
     with-mark-requires-2
-    both-requires-3
+    both-requires-2
     with-mark-requires-3
     with-program-marks-requires
     with-mark-requires-4
