@@ -1,7 +1,8 @@
 //! Single executions of the papers by their names, from the files in `executions/`.
 
 use crate::executions::source;
-use crate::reference::record::{Attribute, Execution};
+use crate::reference::notation::uc;
+use crate::reference::record::Execution;
 
 /// The execution of this name in a file of `executions/`, on WB.
 pub fn named(file: &str, name: &str) -> Execution {
@@ -19,7 +20,7 @@ pub fn k1() -> Execution {
 /// K4's execution: K1 on UC.
 pub fn k1_uncacheable() -> Execution {
     let mut execution = k1();
-    execution.lines[0].attribute = Attribute::Uncacheable;
+    execution.lines[0].attribute = uc(0);
     execution
 }
 

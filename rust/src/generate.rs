@@ -1,9 +1,9 @@
 //! Random records, orders and positions: well-formed ones, and damaged ones for every question.
 
 use crate::random::Random;
-use crate::reference::notation::access;
+use crate::reference::notation::{access, uc};
 use crate::reference::record::{
-    is_dependence, Attribute, Execution, Instruction, Kind, Line, Role, INSTRUCTION_ITEM,
+    is_dependence, Attribute, Execution, Instruction, Kind, Line, Role, DOMAINS, INSTRUCTION_ITEM,
     LINE_ITEM, LINE_SIZE, MAX_INSTRUCTIONS, MAX_LINES, MAX_OPERATIONS, MAX_PAIRS, MAX_PROCESSORS,
     QUESTIONS,
 };
@@ -46,6 +46,9 @@ impl Shape {
 /// Most operations for which a random order is tried out to give the loads their values.
 const MAX_TRIED: usize = 24;
 
+/// The attribute bytes that question 4 passes, as document 02's P6 lists them.
+pub const ATTRIBUTES: [u8; 6] = [0, 1, 2, 17, 33, 49];
+
 /// One execution in so many has no instruction.
 const EMPTY_ONE_IN: usize = 10;
 
@@ -60,20 +63,31 @@ pub fn execution(random: &mut Random, shape: &Shape) -> Execution {
     execution
 }
 
-/// The smaller of two numbers of lines, so that more accesses share one.
+/// The smaller of two numbers of lines, so that more accesses share one; for two domains there are two lines.
 fn lines(random: &mut Random, most: usize) -> Vec<Line> {
-    let count = random.between(1, most).min(random.between(1, most));
-    let attributes = if random.once_in(2) {
-        Attribute::ALL.to_vec()
-    } else {
-        vec![random.pick(&Attribute::ALL)]
-    };
+    let attributes = attributes(random);
+    let fewest = if attributes.len() == 2 { 2 } else { 1 };
+    let counts = [0, 1].map(|_| random.between(fewest, most));
+    let count = counts[0].min(counts[1]);
     let values = random.between(1, 3);
     let line = |_| Line {
         attribute: random.pick(&attributes),
         initial: std::array::from_fn(|_| random.below(values) as u8),
     };
     (0..count).map(line).collect()
+}
+
+/// What the attributes of an execution's lines are picked from: all of them, or one, or UC in two domains.
+fn attributes(random: &mut Random) -> Vec<Attribute> {
+    let mut domains: Vec<u8> = (0..DOMAINS).collect();
+    random.shuffle(&mut domains);
+    match random.below(8) {
+        0..3 => Attribute::all(),
+        3 => vec![Attribute::WriteBack],
+        4 => vec![Attribute::WriteCoalescing],
+        5 => vec![uc(domains[0])],
+        _ => vec![uc(domains[0]), uc(domains[1])],
+    }
 }
 
 /// No instruction, or instructions as long as their operations fit, in the order of their processors.
@@ -341,7 +355,7 @@ fn fail_count(random: &mut Random, execution: &Execution, question: u8) -> Vec<u
         1 => bytes.truncate(random.below(bytes.len())),
         2 => bytes[0] = byte_with(random, |p| !(1..=8).contains(&p)),
         3 => bytes[1] = byte_with(random, |count| !(1..=8).contains(&count)),
-        4 => bytes[random.pick(&layout.lines)] = byte_with(random, |attribute| attribute > 2),
+        4 => bytes[random.pick(&layout.lines)] = byte_with(random, |b| !ATTRIBUTES.contains(&b)),
         _ => {
             let (at, before) = random.pick(&layout.counts);
             bytes[at] = byte_with(random, |count| before + usize::from(count) > 40);

@@ -60,6 +60,11 @@ fn readers_agree_on_every_cut_and_one_byte_more() {
     assert_eq!(tally.reached(), [1, 15]);
 }
 
+/// Bytes at the bounds of the questions, and beside the attribute bytes.
+const VALUES: [u8; 22] = [
+    0, 1, 2, 3, 4, 5, 7, 8, 9, 16, 17, 18, 33, 34, 40, 41, 49, 50, 65, 127, 128, 255,
+];
+
 #[test]
 fn readers_agree_on_every_byte_changed() {
     let mut random = Random::new(3);
@@ -67,7 +72,7 @@ fn readers_agree_on_every_byte_changed() {
     for _ in 0..20 {
         let bytes = execution(&mut random, &Shape::SMALL).to_bytes();
         for at in 0..bytes.len() {
-            for value in [0, 1, 2, 3, 4, 5, 7, 8, 9, 16, 40, 41, 127, 128, 255] {
+            for value in VALUES {
                 let mut changed = bytes.clone();
                 changed[at] = value;
                 tally.ask(&changed);

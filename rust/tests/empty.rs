@@ -3,7 +3,7 @@
 use oglindesh::beside::{
     chain_table, check, judge, proved_operation_count, search, verdict, verdict_program,
 };
-use oglindesh::generate::failing;
+use oglindesh::generate::{failing, ATTRIBUTES};
 use oglindesh::random::Random;
 use oglindesh::reference::counting::{count, Counted};
 use oglindesh::reference::record::{read, MAX_LINES, MAX_PROCESSORS, QUESTIONS};
@@ -24,10 +24,10 @@ fn records(random: &mut Random) -> Vec<Vec<u8>> {
     let mut records = Vec::new();
     for processors in 1..=MAX_PROCESSORS {
         for lines in 1..=MAX_LINES {
-            for first in 0..3 {
+            for first in 0..ATTRIBUTES.len() {
                 let mut bytes = vec![processors as u8, lines as u8];
                 for line in 0..lines {
-                    bytes.push(((first + line) % 3) as u8);
+                    bytes.push(ATTRIBUTES[(first + line) % ATTRIBUTES.len()]);
                     bytes.extend(random.bytes(8));
                 }
                 // An empty program for each processor, and no pair.

@@ -503,5 +503,5 @@ execution all of it   # and one here
     ];
     assert_eq!(bytes, expected.concat());
     let ran = run_all("f", &executions).unwrap_or_else(|wrong| panic!("{wrong}"));
-    assert_eq!(ran.executions, 6 + 1 + 1);
+    assert_eq!(ran.executions, 6 * 2 + 1 + 1);
 }

@@ -1,9 +1,10 @@
 //! The questions 1 to 22 but 10, which is not asked, by hand: boundary values, and which of two comes first.
 
 use oglindesh::beside;
+use oglindesh::generate::ATTRIBUTES;
 use oglindesh::reference::chains::chain_table;
 use oglindesh::reference::notation::{ld, mf, programs, st, X, Y};
-use oglindesh::reference::record::read;
+use oglindesh::reference::record::{read, Attribute};
 use oglindesh::reference::rules::{judge, JudgeAnswer};
 use oglindesh::reference::search::{search, SearchAnswer};
 
@@ -25,13 +26,13 @@ const RECORD: [u8; 80] = [
     0, 1,
 ];
 
-/// The answer to the record with these bytes (place, value) changed: 0 when it passes.
+/// Both readers' answer to the record with these bytes (place, value) changed: 0 when it passes.
 fn answer(changes: &[(usize, u8)]) -> u8 {
     let mut bytes = RECORD;
     for &(at, value) in changes {
         bytes[at] = value;
     }
-    read(&bytes).err().unwrap_or(0)
+    beside::check(&bytes).err().unwrap_or(0)
 }
 
 #[test]
@@ -57,12 +58,41 @@ fn counts_and_lines() {
     assert_eq!(answer(&[(0, 8)]), 1);
     assert_eq!(answer(&[(1, 0)]), 3);
     assert_eq!(answer(&[(1, 9)]), 3);
-    assert_eq!(answer(&[(2, 2)]), 0);
-    assert_eq!(answer(&[(2, 3)]), 4);
-    assert_eq!(answer(&[(11, 255)]), 4);
     assert_eq!(answer(&[(20, 41)]), 5);
     assert_eq!(answer(&[(54, 38)]), 5);
     assert_eq!(answer(&[(54, 37)]), 1);
+}
+
+/// Question 4 of every byte, in the first line and in the last one.
+#[test]
+fn attribute_bytes() {
+    for byte in 0..=u8::MAX {
+        let expected = if ATTRIBUTES.contains(&byte) { 0 } else { 4 };
+        assert_eq!(answer(&[(2, byte)]), expected, "byte {byte}");
+        assert_eq!(answer(&[(11, byte)]), expected, "byte {byte}");
+    }
+}
+
+/// What the bytes stand for, and that they are written as they were read.
+#[test]
+fn attributes() {
+    let all = Attribute::all().into_iter();
+    let rows: Vec<_> = all.map(|a| (a.byte(), a.name(), a.domain())).collect();
+    let expected = [
+        (0, "WB", None),
+        (1, "UC", Some(0)),
+        (2, "WC", None),
+        (17, "UC1", Some(1)),
+        (33, "UC2", Some(2)),
+        (49, "UC3", Some(3)),
+    ];
+    let expected = expected.map(|(byte, name, domain)| (byte, name.to_string(), domain));
+    assert_eq!(rows, expected);
+    for byte in ATTRIBUTES {
+        let mut bytes = RECORD;
+        bytes[11] = byte;
+        assert_eq!(read(&bytes).map(|e| e.to_bytes()), Ok(bytes.to_vec()));
+    }
 }
 
 #[test]

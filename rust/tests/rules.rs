@@ -1,8 +1,8 @@
 //! The rules 1 to 14 by hand: for each an order and a prefix that break it first.
 
 use oglindesh::beside::judge;
-use oglindesh::reference::notation::{self, acq, ld, mf, programs, rel, st, Draft, X, Y};
-use oglindesh::reference::record::{Attribute, Kind};
+use oglindesh::reference::notation::{self, acq, ld, mf, programs, rel, st, uc, Draft, X, Y};
+use oglindesh::reference::record::{Attribute, Instruction, Kind, DOMAINS};
 use oglindesh::reference::rules::{lowest_broken, JudgeAnswer};
 
 fn judged(draft: &Draft, order: &[u8]) -> JudgeAnswer {
@@ -11,6 +11,14 @@ fn judged(draft: &Draft, order: &[u8]) -> JudgeAnswer {
 
 fn broken_by(draft: &Draft, prefix: &[u8]) -> Option<u8> {
     lowest_broken(&draft.clone().build(), prefix)
+}
+
+/// Breaks this rule where it applies, and else none.
+fn breaks_if(applies: bool, rule: u8) -> JudgeAnswer {
+    match applies {
+        true => JudgeAnswer::Breaks(rule),
+        false => JudgeAnswer::Legal,
+    }
 }
 
 #[test]
@@ -78,19 +86,20 @@ fn dependences() {
 #[test]
 fn coherence() {
     let own = programs(&[&[st(X, 1), st(X, 2)], &[]]);
-    assert_eq!(judged(&own, &[0, 3, 1, 4, 2, 5]), JudgeAnswer::Legal);
-    assert_eq!(judged(&own, &[0, 3, 4, 1, 5, 2]), JudgeAnswer::Breaks(9));
-    assert_eq!(judged(&own, &[0, 3, 4, 1, 2, 5]), JudgeAnswer::Breaks(9));
-    assert_eq!(judged(&own, &[0, 3, 1, 4, 5, 2]), JudgeAnswer::Breaks(10));
-    for attribute in [Attribute::Uncacheable, Attribute::WriteCoalescing] {
-        let other = own.clone().all_lines(attribute);
-        let coherent = attribute == Attribute::Uncacheable;
-        let expected = |rule| match coherent {
-            true => JudgeAnswer::Breaks(rule),
-            false => JudgeAnswer::Legal,
-        };
-        assert_eq!(judged(&other, &[0, 3, 4, 1, 5, 2]), expected(9));
-        assert_eq!(judged(&other, &[0, 3, 1, 4, 5, 2]), expected(10));
+    let two = programs(&[&[st(X, 1)], &[st(X, 2)]]);
+    for attribute in Attribute::all() {
+        let coherent = attribute != Attribute::WriteCoalescing;
+        let own = own.clone().all_lines(attribute);
+        assert_eq!(judged(&own, &[0, 3, 1, 4, 2, 5]), JudgeAnswer::Legal);
+        for order in [[0, 3, 4, 1, 5, 2], [0, 3, 4, 1, 2, 5]] {
+            assert_eq!(judged(&own, &order), breaks_if(coherent, 9));
+        }
+        let order = [0, 3, 1, 4, 5, 2];
+        assert_eq!(judged(&own, &order), breaks_if(coherent, 10));
+        let two = two.clone().all_lines(attribute);
+        assert_eq!(judged(&two, &[0, 3, 1, 2, 5, 4]), JudgeAnswer::Legal);
+        let order = [0, 3, 1, 5, 4, 2];
+        assert_eq!(judged(&two, &order), breaks_if(coherent, 10));
     }
 }
 
@@ -144,34 +153,46 @@ fn read_value_by_bytes() {
 #[test]
 fn release_atomicity() {
     let draft = programs(&[&[rel(X, 1)], &[ld(Y, 0)]]);
-    assert_eq!(judged(&draft, &[0, 3, 1, 2]), JudgeAnswer::Legal);
-    assert_eq!(judged(&draft, &[0, 1, 3, 2]), JudgeAnswer::Breaks(12));
+    for attribute in Attribute::all() {
+        let draft = draft.clone().all_lines(attribute);
+        let block = attribute == Attribute::WriteBack;
+        assert_eq!(judged(&draft, &[0, 3, 1, 2]), JudgeAnswer::Legal);
+        assert_eq!(judged(&draft, &[0, 1, 3, 2]), breaks_if(block, 12));
+    }
     assert_eq!(broken_by(&draft, &[0, 1]), None);
     assert_eq!(broken_by(&draft, &[0, 1, 3]), Some(12));
     let plain = programs(&[&[st(X, 1)], &[ld(Y, 0)]]);
     assert_eq!(judged(&plain, &[0, 1, 3, 2]), JudgeAnswer::Legal);
-    for attribute in [Attribute::Uncacheable, Attribute::WriteCoalescing] {
-        let other = draft.clone().all_lines(attribute);
-        assert_eq!(judged(&other, &[0, 1, 3, 2]), JudgeAnswer::Legal);
+}
+
+/// Two accesses to one line are in one domain, wherever they lie; on two lines, see `uncacheable_order_in_domains`.
+#[test]
+fn uncacheable_order() {
+    let line = programs(&[&[ld(X, 0), ld(X + 7, 0)]]);
+    // An mf is no access, though its address is 0.
+    let fence = programs(&[&[ld(Y, 0), mf(), ld(Y, 0)]]);
+    for attribute in (0..DOMAINS).map(uc) {
+        let line = line.clone().all_lines(attribute);
+        assert_eq!(judged(&line, &[0, 1]), JudgeAnswer::Legal);
+        assert_eq!(judged(&line, &[1, 0]), JudgeAnswer::Breaks(13));
+        let fence = fence.clone().all_lines(attribute);
+        assert_eq!(judged(&fence, &[1, 0, 2]), JudgeAnswer::Breaks(4));
     }
 }
 
 #[test]
-fn uncacheable() {
-    let loads = programs(&[&[ld(X, 0), ld(Y, 0)]]);
-    let one = loads.clone().line(0, Attribute::Uncacheable);
-    let both = loads.all_lines(Attribute::Uncacheable);
-    assert_eq!(judged(&one, &[1, 0]), JudgeAnswer::Legal);
-    assert_eq!(judged(&both, &[1, 0]), JudgeAnswer::Breaks(13));
-    // An mf is no access, though its address is 0.
-    let fence = programs(&[&[ld(Y, 0), mf(), ld(Y, 0)]]).all_lines(Attribute::Uncacheable);
-    assert_eq!(judged(&fence, &[1, 0, 2]), JudgeAnswer::Breaks(4));
-    let bypass = programs(&[&[st(X, 1), ld(X, 1)]]).all_lines(Attribute::Uncacheable);
-    assert_eq!(judged(&bypass, &[0, 1, 2]), JudgeAnswer::Legal);
-    assert_eq!(judged(&bypass, &[0, 2, 1]), JudgeAnswer::Breaks(14));
-    assert_eq!(broken_by(&bypass, &[0, 2]), Some(14));
-    let disjoint = programs(&[&[st(X, 1), ld(X + 1, 0)]]).all_lines(Attribute::Uncacheable);
-    assert_eq!(judged(&disjoint, &[0, 2, 1]), JudgeAnswer::Legal);
+fn no_bypass() {
+    let bypass = programs(&[&[st(X, 1), ld(X, 1)]]);
+    let disjoint = programs(&[&[st(X, 1), ld(X + 1, 0)]]);
+    for attribute in Attribute::all() {
+        let bypass = bypass.clone().all_lines(attribute);
+        let uncacheable = attribute.is_uncacheable();
+        assert_eq!(judged(&bypass, &[0, 1, 2]), JudgeAnswer::Legal);
+        assert_eq!(judged(&bypass, &[0, 2, 1]), breaks_if(uncacheable, 14));
+        assert_eq!(broken_by(&bypass, &[0, 2]), uncacheable.then_some(14));
+        let disjoint = disjoint.clone().all_lines(attribute);
+        assert_eq!(judged(&disjoint, &[0, 2, 1]), JudgeAnswer::Legal);
+    }
 }
 
 /// Document 01's table of the program-order rules, earlier kind by row.
@@ -183,25 +204,70 @@ const PROGRAM_ORDER: [[&str; 5]; 5] = [
     ["F", "F", "F", "F", "F"],
 ];
 
+/// The rule of the first letter, if there is one.
+fn program_order_rule(earlier: Kind, later: Kind) -> Option<u8> {
+    let letters = PROGRAM_ORDER[earlier as usize][later as usize];
+    letters.chars().next().map(|letter| match letter {
+        'A' => 2,
+        'L' => 3,
+        _ => 4,
+    })
+}
+
+fn instruction(kind: Kind, address: u8) -> Instruction {
+    match kind {
+        Kind::Fence => mf(),
+        _ => notation::access(kind, address, &[0]),
+    }
+}
+
+/// All pairs of an earlier and a later kind.
+fn pairs_of_kinds() -> impl Iterator<Item = (Kind, Kind)> {
+    let kinds = Kind::ALL.into_iter();
+    kinds.flat_map(|earlier| Kind::ALL.map(|later| (earlier, later)))
+}
+
+/// All pairs of attributes: UC in every two domains among them.
+fn pairs_of_attributes() -> Vec<[Attribute; 2]> {
+    let all = Attribute::all();
+    let firsts = all.iter();
+    let pairs = firsts.flat_map(|&first| all.iter().map(move |&second| [first, second]));
+    pairs.collect()
+}
+
+/// An order of two instructions in one program: the later one's first operation, then all others as they are numbered.
+fn later_first(draft: &Draft) -> Vec<u8> {
+    let e = draft.clone().build();
+    let first = e.operations_of(1).start as u8;
+    let others = (0..e.operation_count() as u8).filter(|&other| other != first);
+    std::iter::once(first).chain(others).collect()
+}
+
 /// Two instructions of each pair of kinds, the later one's operation put first: the lowest rule
 /// broken is that of the first letter, if there is one.
 #[test]
 fn program_order_table() {
-    let instruction = |kind, address| match kind {
-        Kind::Fence => mf(),
-        _ => notation::access(kind, address, &[0]),
-    };
-    for earlier in Kind::ALL {
-        for later in Kind::ALL {
+    for (earlier, later) in pairs_of_kinds() {
+        let draft = programs(&[&[instruction(earlier, X), instruction(later, Y)]]);
+        let expected = program_order_rule(earlier, later);
+        assert_eq!(broken_by(&draft, &later_first(&draft)[..1]), expected);
+    }
+}
+
+/// Two accesses in the same way on every two attributes: where there is no letter, rule 13 is broken if both are UC in one domain.
+#[test]
+fn uncacheable_order_in_domains() {
+    let accesses = |&(a, b): &(Kind, Kind)| a != Kind::Fence && b != Kind::Fence;
+    for (earlier, later) in pairs_of_kinds().filter(accesses) {
+        for [first, second] in pairs_of_attributes() {
             let draft = programs(&[&[instruction(earlier, X), instruction(later, Y)]]);
-            let first_of_later = draft.clone().build().operations_of(1).start as u8;
-            let letters = PROGRAM_ORDER[earlier as usize][later as usize];
-            let expected = letters.chars().next().map(|letter| match letter {
-                'A' => 2,
-                'L' => 3,
-                _ => 4,
-            });
-            assert_eq!(broken_by(&draft, &[first_of_later]), expected);
+            let draft = draft.line(0, first).line(1, second);
+            let one_domain = first.is_uncacheable() && first == second;
+            let rule = program_order_rule(earlier, later).or(one_domain.then_some(13));
+            let expected = rule.map_or(JudgeAnswer::Legal, JudgeAnswer::Breaks);
+            let order = later_first(&draft);
+            assert_eq!(judged(&draft, &order), expected, "{draft:?}");
+            assert_eq!(broken_by(&draft, &order[..1]), rule);
         }
     }
 }

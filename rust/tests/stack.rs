@@ -106,8 +106,9 @@ fn largest() -> Execution {
     let all: Vec<Vec<Instruction>> = (0..8).map(program).collect();
     let all: Vec<&[Instruction]> = all.iter().map(Vec::as_slice).collect();
     let mut draft = programs(&all);
+    let attributes = Attribute::all();
     for p in 0..8 {
-        let attribute = Attribute::ALL[usize::from(p) % 3];
+        let attribute = attributes[usize::from(p) % attributes.len()];
         draft = draft.line(usize::from(p), attribute);
         for (earlier, later) in [(0, 1), (0, 2), (0, 3), (0, 4), (1, 3)] {
             draft = draft.pair(5 * p + earlier, 5 * p + later);

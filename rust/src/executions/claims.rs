@@ -214,7 +214,7 @@ fn read_question(words: &mut Words) -> Result<u8, Fault> {
 /// `any`, or `WB or WC`.
 fn read_alternatives(words: &mut Words) -> Result<Vec<Attribute>, Fault> {
     if words.skip("any") {
-        return Ok(Attribute::ALL.to_vec());
+        return Ok(Attribute::all());
     }
     let mut alternatives = Vec::new();
     loop {
@@ -234,7 +234,7 @@ fn read_alternatives(words: &mut Words) -> Result<Vec<Attribute>, Fault> {
 }
 
 fn attribute_of(word: &str) -> Option<Attribute> {
-    Attribute::ALL.into_iter().find(|a| a.name() == word)
+    Attribute::all().into_iter().find(|a| a.name() == word)
 }
 
 /// `R`, `LV`, `F`, `RVp` or `RV0`; the processors are p, q, r, s, t, u, v, w.

@@ -169,10 +169,11 @@ impl<'a> Model<'a> {
         let one_stores = kinds.iter().any(|kind| kind.is_store());
         let flow = e.pairs.contains(&(i as u8, j as u8));
         let attributes = [i, j].map(|k| e.attribute(k));
-        let uncacheable = attributes == [Attribute::Uncacheable; 2];
+        // The attribute of a UC line has its domain in it.
+        let one_domain = attributes[0].is_uncacheable() && attributes[0] == attributes[1];
         let read_or_local = |role| matches!(role, Role::Read | Role::Local);
         if read_or_local(a.role) && read_or_local(b.role) {
-            return overlap && one_stores || flow || uncacheable;
+            return overlap && one_stores || flow || one_domain;
         }
         let both_own = [a.role, b.role] == [Role::Remote(own); 2];
         both_own && overlap && attributes[0] != Attribute::WriteCoalescing
@@ -220,7 +221,7 @@ impl<'a> Model<'a> {
                 && !state.stands(e.remote(w, p))
         };
         let bypass: Vec<usize> = e.stores().filter(waiting).collect();
-        let refused = |&&w: &&usize| e.attribute(w) == Attribute::Uncacheable && e.overlap(w, load);
+        let refused = |&&w: &&usize| e.attribute(w).is_uncacheable() && e.overlap(w, load);
         if bypass.iter().any(|w| refused(&w)) {
             return false;
         }

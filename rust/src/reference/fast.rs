@@ -108,7 +108,7 @@ struct Step {
     own: bool,
     /// For RV: the other stores that coherence orders with this one.
     coherent: u64,
-    /// For R: its processor's overlapping stores, and those of them on UC.
+    /// For R: its processor's overlapping stores, and those of them on UC, in whatever domain.
     bypass: u64,
     no_bypass: u64,
 }
@@ -183,7 +183,7 @@ fn step_of(e: &Execution, operation: usize) -> Step {
         Role::Read => {
             step.effect = Effect::Read;
             step.bypass = overlapping_stores(e, number, |w| e.same_program(w, number));
-            if e.attribute(number) == Attribute::Uncacheable {
+            if e.attribute(number).is_uncacheable() {
                 step.no_bypass = step.bypass;
             }
         }
@@ -274,8 +274,9 @@ fn require_access_order(
     let stores = kinds.map(Kind::is_store);
     let data = stores != [false, false] && e.overlap(earlier, later);
     let flow = e.pairs.contains(&(earlier as u8, later as u8));
-    let domain = [earlier, later].map(|i| e.attribute(i)) == [Attribute::Uncacheable; 2];
-    if data || flow || domain {
+    let domains = [earlier, later].map(|i| e.attribute(i).domain());
+    let one_domain = domains[0].is_some() && domains[0] == domains[1];
+    if data || flow || one_domain {
         require(e.read_or_local(earlier), e.read_or_local(later));
     }
     let coherent = e.attribute(later) != Attribute::WriteCoalescing;

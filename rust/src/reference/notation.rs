@@ -11,6 +11,11 @@ pub const Z: u8 = 16;
 /// A fourth place, on a line of its own.
 pub const W: u8 = 24;
 
+/// UC in this domain.
+pub fn uc(domain: u8) -> Attribute {
+    Attribute::Uncacheable { domain }
+}
+
 /// ld of one byte, and the byte it saw.
 pub fn ld(address: u8, seen: u8) -> Instruction {
     access(Kind::Load, address, &[seen])

@@ -16,6 +16,8 @@ pub const MAX_INSTRUCTIONS: usize = 40;
 pub const MAX_OPERATIONS: usize = 128;
 /// Most dependence pairs (question 12).
 pub const MAX_PAIRS: usize = 40;
+/// Peripheral domains of UC memory, numbered from 0 (document 02, P6).
+pub const DOMAINS: u8 = 4;
 /// Bytes of memory that one line holds.
 pub const LINE_SIZE: usize = 8;
 /// Record bytes of a line: attribute and initial bytes.
@@ -61,34 +63,61 @@ impl Kind {
     }
 }
 
-/// A line's memory attribute; the number is the record's attribute byte.
+/// A line's memory attribute; a UC line's with its peripheral domain, below [`DOMAINS`].
 #[derive(Clone, Copy, PartialEq, Eq, Debug)]
 pub enum Attribute {
-    WriteBack = 0,
-    Uncacheable = 1,
-    WriteCoalescing = 2,
+    WriteBack,
+    Uncacheable { domain: u8 },
+    WriteCoalescing,
 }
 
 impl Attribute {
-    /// All three attributes, by their number.
-    pub const ALL: [Attribute; 3] = [
-        Attribute::WriteBack,
-        Attribute::Uncacheable,
-        Attribute::WriteCoalescing,
-    ];
+    /// All attributes, UC in every domain, by their byte.
+    pub fn all() -> Vec<Attribute> {
+        (0..=u8::MAX).filter_map(Attribute::of).collect()
+    }
 
-    /// The papers' name.
-    pub fn name(self) -> &'static str {
+    /// The papers' name; behind UC stands the domain, where it is not 0.
+    pub fn name(self) -> String {
         match self {
-            Attribute::WriteBack => "WB",
-            Attribute::Uncacheable => "UC",
-            Attribute::WriteCoalescing => "WC",
+            Attribute::WriteBack => "WB".to_string(),
+            Attribute::Uncacheable { domain: 0 } => "UC".to_string(),
+            Attribute::Uncacheable { domain } => format!("UC{domain}"),
+            Attribute::WriteCoalescing => "WC".to_string(),
         }
     }
 
     /// The attribute of a record's attribute byte (question 4).
     pub fn of(byte: u8) -> Option<Attribute> {
-        Attribute::ALL.get(usize::from(byte)).copied()
+        let domain = byte / 16;
+        match byte {
+            0 => Some(Attribute::WriteBack),
+            2 => Some(Attribute::WriteCoalescing),
+            _ if byte % 16 == 1 && domain < DOMAINS => Some(Attribute::Uncacheable { domain }),
+            _ => None,
+        }
+    }
+
+    /// The record's attribute byte.
+    pub fn byte(self) -> u8 {
+        match self {
+            Attribute::WriteBack => 0,
+            Attribute::Uncacheable { domain } => 1 + 16 * domain,
+            Attribute::WriteCoalescing => 2,
+        }
+    }
+
+    /// The peripheral domain that a UC line belongs to; other lines belong to none.
+    pub fn domain(self) -> Option<u8> {
+        match self {
+            Attribute::Uncacheable { domain } => Some(domain),
+            Attribute::WriteBack | Attribute::WriteCoalescing => None,
+        }
+    }
+
+    /// UC, in whatever domain.
+    pub fn is_uncacheable(self) -> bool {
+        self.domain().is_some()
     }
 }
 
@@ -262,7 +291,7 @@ impl Execution {
     pub fn to_bytes(&self) -> Vec<u8> {
         let mut bytes = vec![self.processors as u8, self.lines.len() as u8];
         for line in &self.lines {
-            bytes.push(line.attribute as u8);
+            bytes.push(line.attribute.byte());
             bytes.extend(line.initial);
         }
         for processor in 0..self.processors {

@@ -237,7 +237,7 @@ fn data_flow(e: &Execution, require: &mut Require) {
     }
 }
 
-/// All ordered pairs of different overlapping stores to WB or UC, which coherence is about.
+/// All ordered pairs of different overlapping stores to WB or UC, in whatever domain, which coherence is about.
 fn coherent_stores(e: &Execution) -> impl Iterator<Item = (usize, usize)> + '_ {
     e.stores()
         .flat_map(|w1| e.stores().map(move |w2| (w1, w2)))
@@ -316,23 +316,23 @@ fn breaks_release_atomicity(e: &Execution, s: &Settled) -> bool {
 }
 
 /// Rule 13, UC order: two UC accesses of one program: R or LV of the first before R or LV of the
-/// second. All UC lines form one domain.
+/// second. Since document 02's P6: only where both are in one domain.
 fn uncacheable_order(e: &Execution, require: &mut Require) {
-    let uncacheable = |i: usize| {
-        e.instructions[i].kind != Kind::Fence && e.attribute(i) == Attribute::Uncacheable
-    };
+    let uncacheable =
+        |i: usize| e.instructions[i].kind != Kind::Fence && e.attribute(i).is_uncacheable();
+    let one_domain = |i, j| e.attribute(i).domain() == e.attribute(j).domain();
     for (earlier, later) in program_order(e) {
-        if uncacheable(earlier) && uncacheable(later) {
+        if uncacheable(earlier) && uncacheable(later) && one_domain(earlier, later) {
             require(e.read_or_local(earlier), e.read_or_local(later));
         }
     }
 }
 
 /// Rule 14, no UC bypass: for a UC store and an overlapping load of one processor, never LV(W)
-/// before R before RV_own(W).
+/// before R before RV_own(W). The domain does not matter.
 fn breaks_no_bypass(e: &Execution, s: &Settled) -> bool {
     e.stores()
-        .filter(|&w| e.attribute(w) == Attribute::Uncacheable)
+        .filter(|&w| e.attribute(w).is_uncacheable())
         .any(|w| {
             e.loads()
                 .filter(|&load| e.same_program(w, load) && e.overlap(w, load))
