@@ -121,6 +121,8 @@ fn record_on_the_first_claim() {
     let bytes = printed(&["record", &first, "K1"]);
     assert_eq!(bytes, k1_uncacheable().to_bytes());
     assert_ne!(bytes, k1().to_bytes());
+    let domain = file("first_domain.txt", &format!("{K1}  allowed on UC2\n"));
+    assert_eq!(printed(&["record", &domain, "K1"])[2], 33);
 }
 
 #[test]

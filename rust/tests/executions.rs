@@ -4,6 +4,7 @@
 use oglindesh::beside;
 use oglindesh::examples::eight_processors;
 use oglindesh::executions::{read, run_all, source, Ran, Written};
+use oglindesh::generate::ATTRIBUTES;
 use oglindesh::reference::search::SearchAnswer;
 
 fn read_source(name: &str) -> Vec<Written> {
@@ -254,7 +255,7 @@ fn wrong_lines_are_told() {
 }
 
 /// Lines after `programs a: st x=1, b: ld y sees 0`, and how the message about them begins.
-const WRONG_NAMES: [(&str, &str); 20] = [
+const WRONG_NAMES: [(&str, &str); 26] = [
     ("pairs 0", "f:3: the line ends too early"),
     ("pairs 0 2", "f:3: `2` is not an instruction"),
     ("pairs a c", "f:3: `c` is not an instruction"),
@@ -290,7 +291,31 @@ const WRONG_NAMES: [(&str, &str); 20] = [
     ("order LV(b)", "f:3: the instruction has no operation LV"),
     ("order RVq(a)", "f:3: the instruction has no operation RVq"),
     ("order R b", "f:3: `b` stands where `(` is expected"),
-    ("allowed on WX", "f:3: `WX` is not a place"),
+    (
+        "allowed on WX",
+        "f:3: `WX` is neither a memory attribute nor a place: write WB, UC, WC, UC1, UC2, UC3 or any, or one of these after each place: x, y, z, w",
+    ),
+    (
+        "allowed on UC0",
+        "f:3: `UC0` is neither a memory attribute nor a place: write WB, UC, WC, UC1, UC2, UC3 or any",
+    ),
+    (
+        "allowed on UC4",
+        "f:3: `UC4` is neither a memory attribute nor a place: write WB, UC, WC, UC1, UC2, UC3 or any",
+    ),
+    (
+        "allowed on x UC, y UC4",
+        "f:3: `UC4` is not a memory attribute: write WB, UC, WC, UC1, UC2, UC3 or any",
+    ),
+    (
+        "allowed on UC3 or UC0",
+        "f:3: `UC0` is not a memory attribute: write WB, UC, WC, UC1, UC2, UC3 or any",
+    ),
+    (
+        "allowed on",
+        "f:3: the line ends too early: write WB, UC, WC, UC1, UC2, UC3 or any",
+    ),
+    ("allowed on x WB, UC1", "f:3: `UC1` is not a place"),
     (
         "allowed on x WB or",
         "f:3: the line ends too early: write WB, ",
@@ -310,8 +335,12 @@ fn wrong_names_are_told() {
 }
 
 /// Claims about `st x=1, ld x sees 1` that are not so, and a part of the message about them.
-const WRONG_CLAIMS: [(&str, &str); 16] = [
+const WRONG_CLAIMS: [(&str, &str); 17] = [
     ("forbidden", "f:3: e on WB: answer: Allowed, not Forbidden"),
+    (
+        "legal on WC or UC2 order 0 2 1",
+        "f:3: e on UC2: judgement: Breaks(14), not Legal",
+    ),
     ("allowed steps 4", "steps: 3, not 4 as claimed"),
     ("allowed order 0 2 1", "order: [0, 1, 2], not [0, 2, 1]"),
     (
@@ -479,7 +508,7 @@ execution all of it   # and one here
             B: st4.rel x=70000; none;
             ld u+1 sees 9   # the last
   pairs     A B
-  allowed   on x any, u WB or WC steps 7
+  allowed   on x any, u WB or UC3 steps 7
   order     R(A) -> F(1) -> LV(B) -> RVp(B) -> RV1(B) ->
             RVr(2) -> R(3)
   legal     on x WB, u UC
@@ -504,4 +533,30 @@ execution all of it   # and one here
     assert_eq!(bytes, expected.concat());
     let ran = run_all("f", &executions).unwrap_or_else(|wrong| panic!("{wrong}"));
     assert_eq!(ran.executions, 6 * 2 + 1 + 1);
+}
+
+/// What may stand after `on`, and the attribute bytes of the two lines in each record that it is run for.
+#[test]
+fn attributes_may_be_written() {
+    let any = ATTRIBUTES.map(|x| ATTRIBUTES.map(|y| [x, y]));
+    let rows: [(&str, &[[u8; 2]]); 9] = [
+        ("", &[[0, 0]]),
+        ("on UC", &[[1, 1]]),
+        ("on UC1", &[[17, 17]]),
+        ("on UC2", &[[33, 33]]),
+        ("on UC3", &[[49, 49]]),
+        ("on x UC, y UC2", &[[1, 33]]),
+        ("on y WC, x UC1 or UC3", &[[17, 2], [49, 2]]),
+        ("on WB or UC1", &[[0, 0], [0, 17], [17, 0], [17, 17]]),
+        ("on any", any.as_flattened()),
+    ];
+    for (on, expected) in rows {
+        let text = format!("execution e\n  programs ld x sees 0, ld y sees 0\n  allowed {on}");
+        let executions = read("f", &text).unwrap_or_else(|wrong| panic!("{wrong}"));
+        let mixes = executions[0].mixes(&executions[0].claims[0]).into_iter();
+        let bytes = mixes.map(|mix| mix.to_bytes());
+        let bytes: Vec<[u8; 2]> = bytes.map(|bytes| [bytes[2], bytes[11]]).collect();
+        assert_eq!(bytes, expected, "{on}");
+        assert_eq!(said(&text), "nothing", "{on}");
+    }
 }

@@ -148,12 +148,20 @@ impl Draft {
         }
     }
 
-    /// `any`, `WB or WC`, or by places `x any, z UC or WC`.
+    /// `any`, `WB or WC`, or by places `x any, z UC1 or WC`.
     fn read_attributes(&self, words: &mut Words) -> Result<Vec<Vec<Attribute>>, Fault> {
         let count = self.line_count();
         let next = words.peek().unwrap_or("");
         if next == "any" || attribute_of(next).is_some() {
             return Ok(vec![read_alternatives(words)?; count]);
+        }
+        if self.find_address(next).is_none() {
+            words.take(&attributes())?;
+            return words.fault(format!(
+                "`{next}` is neither a memory attribute nor a place: write {}, or one of these after each place: {}",
+                attributes(),
+                self.place_names()
+            ));
         }
         let mut on: Vec<Option<Vec<Attribute>>> = vec![None; count];
         loop {
@@ -218,12 +226,13 @@ fn read_alternatives(words: &mut Words) -> Result<Vec<Attribute>, Fault> {
     }
     let mut alternatives = Vec::new();
     loop {
-        let word = words.take("WB, UC, WC or any")?;
+        let word = words.take(&attributes())?;
         match attribute_of(word) {
             Some(attribute) => alternatives.push(attribute),
             None => {
                 return words.fault(format!(
-                    "`{word}` is not a memory attribute: write WB, UC, WC or any"
+                    "`{word}` is not a memory attribute: write {}",
+                    attributes()
                 ))
             }
         }
@@ -235,6 +244,12 @@ fn read_alternatives(words: &mut Words) -> Result<Vec<Attribute>, Fault> {
 
 fn attribute_of(word: &str) -> Option<Attribute> {
     Attribute::all().into_iter().find(|a| a.name() == word)
+}
+
+/// What may be written as an attribute.
+fn attributes() -> String {
+    let names: Vec<String> = Attribute::all().into_iter().map(Attribute::name).collect();
+    format!("{} or any", names.join(", "))
 }
 
 /// `R`, `LV`, `F`, `RVp` or `RV0`; the processors are p, q, r, s, t, u, v, w.

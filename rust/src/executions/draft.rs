@@ -91,18 +91,22 @@ impl Draft {
     }
 
     fn address_of(&self, words: &Words, word: &str) -> Result<u64, Fault> {
-        let place = self.places.iter().find(|(name, _)| name == word);
-        match (place, number_of(word)) {
-            (Some(&(_, at)), _) => Ok(u64::from(at)),
-            (None, Some(number)) => Ok(number),
-            (None, None) => words.fault(format!(
+        match self.find_address(word) {
+            Some(address) => Ok(address),
+            None => words.fault(format!(
                 "`{word}` is not a place: write {}, or a line `places` that says where it is",
                 self.place_names()
             )),
         }
     }
 
-    fn place_names(&self) -> String {
+    /// Where a place is, or the number itself.
+    pub(super) fn find_address(&self, word: &str) -> Option<u64> {
+        let place = self.places.iter().find(|(name, _)| name == word);
+        place.map_or_else(|| number_of(word), |&(_, at)| Some(u64::from(at)))
+    }
+
+    pub(super) fn place_names(&self) -> String {
         let names: Vec<&str> = self.places.iter().map(|(name, _)| name.as_str()).collect();
         names.join(", ")
     }

@@ -109,7 +109,7 @@ fn asks(question: u8) -> &'static str {
         1 => "does the item end within the record?",
         2 => "are there 1 to 8 processors?",
         3 => "are there 1 to 8 lines, addresses 0 to 63?",
-        4 => "is the attribute WB, UC or WC?",
+        4 => "is the attribute WB, UC, WC, UC1, UC2 or UC3?",
         5 => "are there at most 40 instructions?",
         6 => "is the kind ld, ld.acq, st, st.rel or mf?",
         7 => "is the size 1, 2, 4 or 8?",
