@@ -12,7 +12,7 @@ use std::fmt;
 use std::path::Path;
 
 pub use reader::read;
-pub use run::{run, run_all, Ran};
+pub use run::{run_all, Ran};
 
 /// One execution of a file, and what is claimed of it.
 #[derive(Clone, PartialEq, Eq, Debug)]

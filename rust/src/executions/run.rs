@@ -12,7 +12,7 @@ use crate::reference::{chains, fast};
 use std::sync::atomic::{AtomicUsize, Ordering};
 use std::sync::Mutex;
 
-/// What was run for a claim.
+/// What was run.
 #[derive(Clone, Copy, Default, PartialEq, Eq, Debug)]
 pub struct Ran {
     /// Executions, one for each mix of the attributes.
@@ -40,20 +40,27 @@ impl Ran {
     }
 }
 
-/// Runs all claims of a file, on every processor of the machine; of what differs, the first line is told.
+/// Runs all claims of a file, every mix of their attributes, on every processor of the machine; of what differs, the first is told.
 pub fn run_all(file: &str, executions: &[Written]) -> Result<Ran, Wrong> {
-    let mut claims: Vec<(&Written, &Claim)> = Vec::new();
+    let mut all: Vec<(&Written, &Claim, Execution)> = Vec::new();
     for written in executions {
-        claims.extend(written.claims.iter().map(|claim| (written, claim)));
+        for claim in &written.claims {
+            let mixes = written.mixes(claim).into_iter();
+            all.extend(mixes.map(|execution| (written, claim, execution)));
+        }
     }
     let next = AtomicUsize::new(0);
     let results = Mutex::new(Vec::new());
-    let work = || {
-        while let Some((written, claim)) = claims.get(next.fetch_add(1, Ordering::Relaxed)) {
-            let result = run(file, written, claim);
-            let mut results = results.lock().expect("no thread ends in a panic");
-            results.push((claim.line, result));
-        }
+    let work = || loop {
+        let at = next.fetch_add(1, Ordering::Relaxed);
+        let Some((written, claim, execution)) = all.get(at) else {
+            break;
+        };
+        let mut random = Random::new(at as u64);
+        let result = run(execution, &claim.says, &mut random);
+        let result = result.map_err(|what| wrong(file, written, claim, execution, &what));
+        let mut results = results.lock().expect("no thread ends in a panic");
+        results.push((at, result));
     };
     std::thread::scope(|scope| {
         for _ in 0..std::thread::available_parallelism().map_or(1, usize::from) {
@@ -61,7 +68,7 @@ pub fn run_all(file: &str, executions: &[Written]) -> Result<Ran, Wrong> {
         }
     });
     let mut results = results.into_inner().expect("no thread ends in a panic");
-    results.sort_by_key(|(line, _)| *line);
+    results.sort_by_key(|(at, _)| *at);
     let mut sum = Ran::default();
     for (_, result) in results {
         sum = sum.and(result?);
@@ -69,30 +76,20 @@ pub fn run_all(file: &str, executions: &[Written]) -> Result<Ran, Wrong> {
     Ok(sum)
 }
 
-/// Runs one claim of an execution; what differs is told with the claim's line.
-pub fn run(file: &str, written: &Written, claim: &Claim) -> Result<Ran, Wrong> {
-    let mut ran = Ran::default();
-    let mut random = Random::new(claim.line as u64);
-    for execution in written.mixes(claim) {
-        match run_one(&execution, &claim.says, &mut random) {
-            Ok(one) => ran = ran.and(one),
-            Err(what) => {
-                let lines = execution.lines.iter();
-                let attributes: Vec<_> = lines.map(|line| line.attribute.name()).collect();
-                let attributes = attributes.join(", ");
-                return Err(Wrong {
-                    file: file.to_string(),
-                    line: claim.line,
-                    what: format!("{} on {attributes}: {what}", written.name),
-                });
-            }
-        }
+/// What differs, with the claim's line and the attributes that it was run for.
+fn wrong(file: &str, written: &Written, claim: &Claim, execution: &Execution, what: &str) -> Wrong {
+    let lines = execution.lines.iter();
+    let attributes: Vec<_> = lines.map(|line| line.attribute.name()).collect();
+    let attributes = attributes.join(", ");
+    Wrong {
+        file: file.to_string(),
+        line: claim.line,
+        what: format!("{} on {attributes}: {what}", written.name),
     }
-    Ok(ran)
 }
 
 /// Runs what is claimed of one execution.
-fn run_one(execution: &Execution, says: &Says, random: &mut Random) -> Result<Ran, String> {
+fn run(execution: &Execution, says: &Says, random: &mut Random) -> Result<Ran, String> {
     let bytes = execution.to_bytes();
     let by_reference = record::read(&bytes).map(|_| ());
     same("check", proved::check(&bytes), by_reference)?;
