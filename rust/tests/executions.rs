@@ -32,7 +32,12 @@ fn document_01() {
 
 #[test]
 fn document_02() {
-    let names = ["nothing on one processor", "nothing on eight processors"];
+    let names = [
+        "nothing on one processor",
+        "nothing on eight processors",
+        "two device boards",
+        "old records",
+    ];
     run_source("requests", &names.map(str::to_string));
 }
 
@@ -41,11 +46,18 @@ fn document_000() {
     run_source("computations", &["computation 1".to_string()]);
 }
 
-/// Table 15 with the number of its prefixes; the first million of them are compared.
+/// Table 15 with the number of its prefixes; the first million of them are compared. And the four rules on peripheral domains.
 #[test]
 fn the_note() {
-    let tables: Vec<String> = (4..=20).map(|table| format!("table {table}")).collect();
-    let ran = run_source("note", &tables);
+    let mut names: Vec<String> = (4..=20).map(|table| format!("table {table}")).collect();
+    let accesses = [
+        "two reads",
+        "a read, then a write",
+        "a write, then a read",
+        "two writes",
+    ];
+    names.extend(accesses.map(|two| format!("{two} in one domain")));
+    let ran = run_source("note", &names);
     assert!(ran.steps > 1_000_000, "{ran:?}");
 }
 
