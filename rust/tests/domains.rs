@@ -1,0 +1,196 @@
+//! Peripheral domains of UC lines (document 02, P6): what they decide, what they do not, and that generated records have both.
+
+use oglindesh::beside::{chain_table, check, judge, search};
+use oglindesh::generate::{consistent_prefix, execution, order, Shape, ATTRIBUTES};
+use oglindesh::random::Random;
+use oglindesh::reference::notation::uc;
+use oglindesh::reference::record::{Execution, Kind, DOMAINS};
+use oglindesh::reference::rules::{lowest_broken, JudgeAnswer};
+use oglindesh::reference::search::{SearchAnswer, SearchReply};
+use std::collections::BTreeSet;
+
+/// Two UC accesses of one program, by their numbers, and whether they are in one domain.
+#[derive(Clone, Copy, PartialEq, Eq, Debug)]
+struct Pair {
+    earlier: usize,
+    later: usize,
+    one_domain: bool,
+}
+
+/// All of them.
+fn uncacheable_pairs(e: &Execution) -> Vec<Pair> {
+    let domain = |i: usize| match e.instructions[i].kind {
+        Kind::Fence => None,
+        _ => e.lines[e.instructions[i].line()].attribute.domain(),
+    };
+    let laters = 0..e.instructions.len();
+    let all = laters.flat_map(|later| (0..later).map(move |earlier| (earlier, later)));
+    all.filter(|&(earlier, later)| e.same_program(earlier, later))
+        .filter_map(|(earlier, later)| {
+            let one_domain = domain(earlier)? == domain(later)?;
+            Some(Pair {
+                earlier,
+                later,
+                one_domain,
+            })
+        })
+        .collect()
+}
+
+/// The execution with its UC lines moved to other domains, one after another.
+fn moved(e: &Execution, mut to: impl FnMut() -> u8) -> Execution {
+    let mut other = e.clone();
+    let lines = other.lines.iter_mut();
+    for line in lines.filter(|line| line.attribute.is_uncacheable()) {
+        line.attribute = uc(to());
+    }
+    other
+}
+
+/// What all calls say of a record.
+#[derive(PartialEq, Eq, Debug)]
+struct Answers {
+    check: Result<(), u8>,
+    table: Vec<u8>,
+    /// Of a search in parts: each reply, and the buffer that it left.
+    search: Vec<(SearchReply, Vec<u8>)>,
+    judged: Vec<JudgeAnswer>,
+}
+
+impl Answers {
+    /// The order that the search found.
+    fn found(&self) -> Option<&[u8]> {
+        let (reply, buffer) = self.search.last()?;
+        (reply.answer == SearchAnswer::Allowed).then_some(buffer)
+    }
+}
+
+/// Steps of one record that are searched.
+const STEPS_EACH: u32 = 600;
+
+/// Makes all calls, with allowances and orders that the seed gives.
+fn answers(e: &Execution, seed: u64) -> Answers {
+    let mut random = Random::new(seed);
+    let (bytes, count) = (e.to_bytes(), e.operation_count());
+    let mut table = vec![9; count * count];
+    assert_eq!(chain_table(&bytes, &mut table), Ok(()));
+    let mut answers = Answers {
+        check: check(&bytes),
+        table,
+        search: Vec::new(),
+        judged: Vec::new(),
+    };
+    let mut buffer = vec![255; count];
+    let (mut length, mut steps) = (0, 0);
+    while steps <= STEPS_EACH {
+        let allowance = random.pick(&[0, 1, 3, 20, 300]);
+        let reply = search(&bytes, &mut buffer, length, allowance);
+        answers.search.push((reply, buffer.clone()));
+        (length, steps) = (reply.length, steps + reply.steps);
+        if reply.answer != SearchAnswer::Unfinished {
+            break;
+        }
+    }
+    let mut orders: Vec<Vec<u8>> = (0..3).map(|_| order(&mut random, count)).collect();
+    if let Some(found) = answers.found() {
+        orders.push(found.to_vec());
+        for at in 1..count {
+            // Two neighbours of the legal order exchanged.
+            let mut other = found.to_vec();
+            other.swap(at - 1, at);
+            orders.push(other);
+        }
+    }
+    answers.judged = orders.iter().map(|order| judge(&bytes, order)).collect();
+    answers
+}
+
+/// Of every shape: lines of every attribute, and two UC accesses of one program on two lines, in one domain and in two.
+#[test]
+fn generated_records_have_both() {
+    let mut random = Random::new(61);
+    for shape in Shape::ALL {
+        let (mut one, mut two) = (0, 0);
+        let mut bytes = BTreeSet::new();
+        for _ in 0..1000 {
+            let e = execution(&mut random, &shape);
+            bytes.extend(e.lines.iter().map(|line| line.attribute.byte()));
+            let mut pairs = uncacheable_pairs(&e);
+            pairs.retain(|p| e.instructions[p.earlier].line() != e.instructions[p.later].line());
+            one += usize::from(pairs.iter().any(|pair| pair.one_domain));
+            two += usize::from(pairs.iter().any(|pair| !pair.one_domain));
+        }
+        assert!(one > 40 && two > 40, "{shape:?}: {one} and {two} records");
+        assert!(bytes.into_iter().eq(ATTRIBUTES), "{shape:?}");
+    }
+}
+
+/// All UC lines of an old record are in domain 0. What is said of it is said of one domain, whichever that is.
+#[test]
+fn old_records_mean_what_they_meant() {
+    let mut random = Random::new(62);
+    let mut ordered = 0;
+    for round in 0..600 {
+        let old = moved(&execution(&mut random, &Shape::ALL[round % 3]), || 0);
+        ordered += usize::from(!uncacheable_pairs(&old).is_empty());
+        let seed = random.next_u64();
+        let expected = answers(&old, seed);
+        for domain in 1..DOMAINS {
+            let other = moved(&old, || domain);
+            assert_eq!(answers(&other, seed), expected, "{other:?}");
+        }
+    }
+    assert!(ordered > 200, "{ordered} records have something to order");
+}
+
+/// Nothing but whether two accesses of one program share a domain: rules 9, 10, 12 and 14 ignore it, and rule 13 its number.
+#[test]
+fn only_shared_domains_matter() {
+    let mut random = Random::new(63);
+    let (mut alone, mut parted) = (0, 0);
+    for round in 0..3000 {
+        let e = execution(&mut random, &Shape::ALL[round % 3]);
+        let other = moved(&e, || random.below(DOMAINS.into()) as u8);
+        let pairs = uncacheable_pairs(&e);
+        if other == e || uncacheable_pairs(&other) != pairs {
+            continue;
+        }
+        alone += usize::from(pairs.iter().all(|pair| pair.one_domain));
+        parted += usize::from(pairs.iter().any(|pair| !pair.one_domain));
+        let seed = random.next_u64();
+        assert_eq!(answers(&other, seed), answers(&e, seed), "{other:?}");
+    }
+    assert!(alone > 200 && parted > 40, "{alone} and {parted} records");
+}
+
+/// With all UC lines in one domain there are more links and fewer consistent prefixes, by rule 13 alone.
+#[test]
+fn one_domain_forbids_more() {
+    let mut random = Random::new(64);
+    let (mut tables, mut searches, mut prefixes) = (0, 0, 0);
+    for round in 0..3000 {
+        let e = execution(&mut random, &Shape::ALL[round % 3]);
+        let one = moved(&e, || 3);
+        let seed = random.next_u64();
+        let [parted, joined] = [&e, &one].map(|e| answers(e, seed));
+        let mut marks = parted.table.iter().zip(&joined.table);
+        assert!(marks.all(|(parted, joined)| parted <= joined), "{e:?}");
+        tables += usize::from(parted.table != joined.table);
+        searches += usize::from(parted.search != joined.search);
+        if let Some(order) = joined.found() {
+            assert_eq!(judge(&e.to_bytes(), order), JudgeAnswer::Legal, "{e:?}");
+        }
+        // A position of the one record is taken for the other, or fails question 21 there.
+        let position = consistent_prefix(&mut random, &e);
+        let mut buffer = [255; 128];
+        buffer[..position.len()].copy_from_slice(&position);
+        let reply = search(&one.to_bytes(), &mut buffer, position.len(), 0);
+        let broken = lowest_broken(&one, &position);
+        let refused = reply.answer == SearchAnswer::Refused(21);
+        assert_eq!(broken, refused.then_some(13), "{e:?} at {position:?}");
+        prefixes += usize::from(refused);
+    }
+    let counted = [tables, searches, prefixes];
+    println!("tables, searches and prefixes that differ: {counted:?}");
+    assert!(counted.iter().all(|&count| count > 100), "{counted:?}");
+}
