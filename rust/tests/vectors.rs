@@ -2,8 +2,8 @@
 //! exported calls and through the reference.
 //!
 //! A line is a request, a tab, the reply. Bytes are lower-case hexadecimal, `-` for none; numbers are decimal. A file is named
-//! after the change request that it waits for; docs/DECISIONS.md says which lines P2.txt has. A new kind of request is a row of
-//! `REQUESTS`, and for its call a field of `Calls`.
+//! after the change requests that it waits for, and kept whole. A new kind of request is a row of `REQUESTS`, and for its call a
+//! field of `Calls`.
 
 use oglindesh::beside::{proved_judge, proved_operation_count, proved_search, verdict_program};
 use oglindesh::proved;
