@@ -191,6 +191,8 @@ fn one_domain_forbids_more() {
         prefixes += usize::from(refused);
     }
     let counted = [tables, searches, prefixes];
-    println!("tables, searches and prefixes that differ: {counted:?}");
-    assert!(counted.iter().all(|&count| count > 100), "{counted:?}");
+    assert!(
+        counted.iter().all(|&count| count > 100),
+        "{counted:?} tables, searches and prefixes differ"
+    );
 }
