@@ -17,7 +17,7 @@ static const uint8_t k1[] = {
 /* Two processors, one WB line of zeros, no instruction on either, no pair. It has no operation. */
 static const uint8_t nothing[] = {2, 1, 0, 0, 0, 0, 0, 0, 0, 0, 0, 0, 0, 0};
 
-/* Two UC lines, one after the other loaded: ld x sees 0, ld y sees 0. A line's attribute is 1 + 16 * d, d being its domain. */
+/* Two UC lines, one after the other loaded: ld x sees 0, ld y sees 0. A UC line's attribute is 1 + 16 * d, d its domain. */
 enum { Y_ATTRIBUTE = 2 + 9 };
 static uint8_t uncacheable[] = {
     1,                                /* one processor */

@@ -63,12 +63,12 @@ pub fn execution(random: &mut Random, shape: &Shape) -> Execution {
     execution
 }
 
-/// The smaller of two numbers of lines, so that more accesses share one; for two domains there are two lines.
+/// The smaller of two numbers of lines, so that more accesses share one.
 fn lines(random: &mut Random, most: usize) -> Vec<Line> {
-    let attributes = attributes(random);
-    let fewest = if attributes.len() == 2 { 2 } else { 1 };
-    let counts = [0, 1].map(|_| random.between(fewest, most));
-    let count = counts[0].min(counts[1]);
+    let (attributes, fewest) = attributes(random);
+    let count = random
+        .between(fewest, most)
+        .min(random.between(fewest, most));
     let values = random.between(1, 3);
     let line = |_| Line {
         attribute: random.pick(&attributes),
@@ -77,16 +77,16 @@ fn lines(random: &mut Random, most: usize) -> Vec<Line> {
     (0..count).map(line).collect()
 }
 
-/// What the attributes of an execution's lines are picked from: all of them, or one, or UC in two domains.
-fn attributes(random: &mut Random) -> Vec<Attribute> {
+/// What the attributes of an execution's lines are picked from, all of them, or one, or UC in two domains; and the fewest lines.
+fn attributes(random: &mut Random) -> (Vec<Attribute>, usize) {
     let mut domains: Vec<u8> = (0..DOMAINS).collect();
     random.shuffle(&mut domains);
     match random.below(8) {
-        0..3 => Attribute::all(),
-        3 => vec![Attribute::WriteBack],
-        4 => vec![Attribute::WriteCoalescing],
-        5 => vec![uc(domains[0])],
-        _ => vec![uc(domains[0]), uc(domains[1])],
+        0..3 => (Attribute::all(), 1),
+        3 => (vec![Attribute::WriteBack], 1),
+        4 => (vec![Attribute::WriteCoalescing], 1),
+        5 => (vec![uc(domains[0])], 1),
+        _ => (vec![uc(domains[0]), uc(domains[1])], 2),
     }
 }
 

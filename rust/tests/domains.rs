@@ -11,14 +11,14 @@ use std::collections::BTreeSet;
 
 /// Two UC accesses of one program, by their numbers, and whether they are in one domain.
 #[derive(Clone, Copy, PartialEq, Eq, Debug)]
-struct Pair {
+struct TwoAccesses {
     earlier: usize,
     later: usize,
     one_domain: bool,
 }
 
 /// All of them.
-fn uncacheable_pairs(e: &Execution) -> Vec<Pair> {
+fn two_uncacheable(e: &Execution) -> Vec<TwoAccesses> {
     let domain = |i: usize| match e.instructions[i].kind {
         Kind::Fence => None,
         _ => e.lines[e.instructions[i].line()].attribute.domain(),
@@ -28,7 +28,7 @@ fn uncacheable_pairs(e: &Execution) -> Vec<Pair> {
     all.filter(|&(earlier, later)| e.same_program(earlier, later))
         .filter_map(|(earlier, later)| {
             let one_domain = domain(earlier)? == domain(later)?;
-            Some(Pair {
+            Some(TwoAccesses {
                 earlier,
                 later,
                 one_domain,
@@ -47,10 +47,9 @@ fn moved(e: &Execution, mut to: impl FnMut() -> u8) -> Execution {
     other
 }
 
-/// What all calls say of a record.
+/// What table, search and judge say of a record that passes.
 #[derive(PartialEq, Eq, Debug)]
 struct Answers {
-    check: Result<(), u8>,
     table: Vec<u8>,
     /// Of a search in parts: each reply, and the buffer that it left.
     search: Vec<(SearchReply, Vec<u8>)>,
@@ -73,9 +72,9 @@ fn answers(e: &Execution, seed: u64) -> Answers {
     let mut random = Random::new(seed);
     let (bytes, count) = (e.to_bytes(), e.operation_count());
     let mut table = vec![9; count * count];
+    assert_eq!(check(&bytes), Ok(()));
     assert_eq!(chain_table(&bytes, &mut table), Ok(()));
     let mut answers = Answers {
-        check: check(&bytes),
         table,
         search: Vec::new(),
         judged: Vec::new(),
@@ -115,32 +114,37 @@ fn generated_records_have_both() {
         for _ in 0..1000 {
             let e = execution(&mut random, &shape);
             bytes.extend(e.lines.iter().map(|line| line.attribute.byte()));
-            let mut pairs = uncacheable_pairs(&e);
-            pairs.retain(|p| e.instructions[p.earlier].line() != e.instructions[p.later].line());
-            one += usize::from(pairs.iter().any(|pair| pair.one_domain));
-            two += usize::from(pairs.iter().any(|pair| !pair.one_domain));
+            let mut all = two_uncacheable(&e);
+            all.retain(|t| e.instructions[t.earlier].line() != e.instructions[t.later].line());
+            one += usize::from(all.iter().any(|t| t.one_domain));
+            two += usize::from(all.iter().any(|t| !t.one_domain));
         }
         assert!(one > 40 && two > 40, "{shape:?}: {one} and {two} records");
         assert!(bytes.into_iter().eq(ATTRIBUTES), "{shape:?}");
     }
 }
 
-/// All UC lines of an old record are in domain 0. What is said of it is said of one domain, whichever that is.
+/// All UC lines of an old record are in domain 0, and every two UC accesses of one program are ordered. What is said of it is said
+/// of one domain, whichever that is.
 #[test]
 fn old_records_mean_what_they_meant() {
     let mut random = Random::new(62);
     let mut ordered = 0;
     for round in 0..600 {
         let old = moved(&execution(&mut random, &Shape::ALL[round % 3]), || 0);
-        ordered += usize::from(!uncacheable_pairs(&old).is_empty());
         let seed = random.next_u64();
         let expected = answers(&old, seed);
+        for two in two_uncacheable(&old) {
+            let [a, b] = [two.earlier, two.later].map(|access| old.read_or_local(access));
+            assert_eq!(expected.table[a * old.operation_count() + b], 1, "{old:?}");
+            ordered += 1;
+        }
         for domain in 1..DOMAINS {
             let other = moved(&old, || domain);
             assert_eq!(answers(&other, seed), expected, "{other:?}");
         }
     }
-    assert!(ordered > 200, "{ordered} records have something to order");
+    assert!(ordered > 200, "{ordered} times two accesses are ordered");
 }
 
 /// Nothing but whether two accesses of one program share a domain: rules 9, 10, 12 and 14 ignore it, and rule 13 its number.
@@ -151,12 +155,12 @@ fn only_shared_domains_matter() {
     for round in 0..3000 {
         let e = execution(&mut random, &Shape::ALL[round % 3]);
         let other = moved(&e, || random.below(DOMAINS.into()) as u8);
-        let pairs = uncacheable_pairs(&e);
-        if other == e || uncacheable_pairs(&other) != pairs {
+        let all = two_uncacheable(&e);
+        if other == e || two_uncacheable(&other) != all {
             continue;
         }
-        alone += usize::from(pairs.iter().all(|pair| pair.one_domain));
-        parted += usize::from(pairs.iter().any(|pair| !pair.one_domain));
+        alone += usize::from(all.iter().all(|t| t.one_domain));
+        parted += usize::from(all.iter().any(|t| !t.one_domain));
         let seed = random.next_u64();
         assert_eq!(answers(&other, seed), answers(&e, seed), "{other:?}");
     }

@@ -8,12 +8,12 @@ use lib.ListN.{length, getD, take, drop, List·getD-map}
 use lib.Seq.{getD-take, getD-drop}
 use lib.Dec.{eqb, ltb}
 use borrow.Author.Tests.{eq-eqb, ne-eqb, eqb-true, lt-ltb, ltb-true}
-use Rattle.base.specs.Lists.{any, keep, when, for, below, member}
+use Rattle.base.specs.Lists.{any, keep, when, for, count, below, member}
 use Rattle.base.proofs.Bools.{split, agree, and-parts, and-both}
 use Rattle.base.proofs.Lists.{any-witness, any-member, any-map, member-any, in-below, of-below}
 use Rattle.model.specs.Execution.{Attribute, WB, UC, WC, attributeNumber, attributeOf, attributes, isWB, isUC, sameDomain, Line, noLine, Instruction, Execution, Operation, isRelease, R, LV, numberOf, operations, allOperations, everyProcessor, stores, loads, lineAt, attributeAt, initialByte}
 use Rattle.model.specs.Questions.{found, item, byte, ask, many, question2, question3, question4, question15, lineOf, readLine, readLines, readInstructions, readPairs, readRecord}
-use Rattle.model.specs.Rules.{isRorLV, earlier, link1, link2, link3, link4, link5, link6, link7, paired, link8, inWB, inUC, inOneDomain, link13, Claim, never, sees, addresses, overlap, RV-own, linksOf, conflict, forConflicts, rule9, rule10, sightOf, rule11, remoteOf, rule12, rule14, rules, linked}
+use Rattle.model.specs.Rules.{isRorLV, earlier, link1, link2, link3, link4, link5, link6, link7, paired, link8, inWB, inUC, inOneDomain, link13, Claim, never, sees, addresses, overlap, RV-own, linksOf, conflict, forConflicts, rule9, rule10, sightOf, rule11, remoteOf, rule12, rule14, rules}
 use Rattle.model.specs.Calls.{judgeOrder, judgeCall, searchSaved, searchReply, searching, searchCall, tableMarks, tableReply, tabling, tableCall}
 use Rattle.model.specs.Claims.{AttributeNumbers, withoutDomain, lineWithoutDomain, oneDomain, oldLink13, oldRules, OneDomain, attributeByte, OldRecords}
 use Rattle.model.proofs.Asking.{after-says}
@@ -54,8 +54,16 @@ pub question4-is : (n : ℕ) → question4 n ≡ (eqb 0 n || (eqb 2 n || (eqb (n
 unfolding question4 attributes member
 question4-is n = ap (λ (t : Bool). eqb 0 n || (eqb 2 n || t)) (domains-are 4 n)
 
+-- what document 01's question 4 passed
+passed-before : (n : ℕ) → n ≤ 2 → (question4 n ≡ true) × (attributeOf n ≡ getD (WB ∷ UC 0 ∷ []) n WC)
+unfolding question4 attributes member below count
+passed-before zero h = (refl, refl)
+passed-before (suc zero) h = (refl, refl)
+passed-before (suc (suc zero)) h = (refl, refl)
+passed-before (suc (suc (suc n))) h = absurd (omega arith)
+
 pub attribute-numbers : AttributeNumbers
-attribute-numbers = (read-back, numbered)
+attribute-numbers = (read-back, numbered, passed-before)
 
 -- Only rule 13 minds the domains
 
@@ -253,8 +261,9 @@ old-records bytes e h old =
     let (rest, f) = read-found bytes e h in
     let one = one-was bytes e rest f old in
     record {
+      one = one;
       rules-are = ap rules (sym one) ∙ rules-one e;
-      links-are = λ a b. ap (λ (d : Execution). linked d a b) (sym one);
+      links-are = λ a b. ap (λ (d : Execution). link13 d a b) (sym one) ∙ link13-one e a b;
       judged = λ order. sym (after-says (λ d. judgeOrder d order) h) ∙ ap (λ (d : Execution). judgeOrder d order) (sym one);
       searched = λ buffer saved allowance. ap (searchReply saved buffer)
           (sym (after-says (λ d. searchSaved d buffer saved allowance) h) ∙ ap (λ (d : Execution). searchSaved d buffer saved allowance) (sym one));

@@ -9,7 +9,7 @@ use Rattle.base.specs.Lists.{member, distinct}
 use Rattle.base.specs.Lex.{Less}
 use Rattle.model.specs.Execution.{Kind, isLoad, isStore, isAcquire, isRelease, isFence, Attribute, WB, UC, WC, attributeNumber, attributeOf, Line, Execution, Operation, operations}
 use Rattle.model.specs.Questions.{at, lineLength, question2, question3, question4, lineOf}
-use Rattle.model.specs.Rules.{isRorLV, earlier, link8, inUC, link13, Claim, must, linksOf, rules, linked, keeps, consistent}
+use Rattle.model.specs.Rules.{isRorLV, earlier, link8, inUC, link13, Claim, must, linksOf, rules, keeps, consistent}
 use Rattle.model.specs.ProgramOrder.{marks}
 use Rattle.model.specs.Search.{allowed, prefixes, after}
 use Rattle.model.specs.Calls.{says, refuses, readAll, judgeOrder, judgeCall, Legal, searchSaved, searchReply, searchCall, done, tableMarks, tableReply, tableCall}
@@ -79,11 +79,13 @@ EmptyExecution =
     (p : ℕ) (lines : List (List ℕ)) → question2 p ≡ true → question3 (length lines) ≡ true → Each LinePasses lines
     → EmptyAnswers (recordOf lines (replicate p []) []) (record { processors = p; lines = map lineOf lines; instructions = []; pairs = [] })
 
--- Document 02, P6: each attribute is that of its number, and each number that passes question 4 is that of its attribute
+-- Document 02, P6: each attribute is that of its number, and each number that passes question 4 is that of its attribute. What document 01's question 4 passed
+-- passes, and is what it was, UC in domain 0.
 abbrev pub AttributeNumbers : Type 0
 AttributeNumbers =
     ((a : Attribute) → attributeOf (attributeNumber a) ≡ a)
     × ((n : ℕ) → question4 n ≡ true → attributeNumber (attributeOf n) ≡ n)
+    × ((n : ℕ) → n ≤ 2 → (question4 n ≡ true) × (attributeOf n ≡ getD (WB ∷ UC 0 ∷ []) n WC))
 
 -- the attribute, with domain 0 for every domain
 abbrev pub withoutDomain : Attribute → Attribute
@@ -107,11 +109,11 @@ oneDomain e = record {
 unfoldable pub oldLink13 : Execution → Operation → Operation → Bool
 oldLink13 e a b = earlier a b && (inUC e (a .instruction) && inUC e (b .instruction)) && (isRorLV a && isRorLV b)
 
--- the rules with that one for rule 13, which is element 12 of the list
+-- the rules with that one for rule 13, which is element 12 of the list, counted from 0
 unfoldable pub oldRules : Execution → List (List Claim)
 oldRules e = set (rules e) 12 (map must (linksOf e (oldLink13 e)))
 
--- With one domain, rule 13 is document 01's. No other rule minds the domains, in any execution.
+-- With one domain, rule 13 is document 01's. No other rule minds the domains, in any execution. (Of the links, those of rules 8 and 13 ask the execution.)
 abbrev pub OneDomain : Type 0
 OneDomain =
     (e : Execution)
@@ -122,16 +124,17 @@ OneDomain =
 abbrev pub attributeByte : List ℕ → ℕ → ℕ
 attributeByte bytes k = getD bytes (2 + lineLength * k) 0
 
--- the rules are document 01's, and links and calls are those of the execution with one domain
+-- The execution is that with one domain; so rules and links are document 01's, and the calls answer as with one domain.
 pub record OldAnswers (bytes : List ℕ) (e : Execution) : Type 0 where
+  pub one : oneDomain e ≡ e
   pub rules-are : rules e ≡ oldRules e
-  pub links-are : (a b : Operation) → linked e a b ≡ linked (oneDomain e) a b
+  pub links-are : (a b : Operation) → link13 e a b ≡ oldLink13 e a b
   pub judged : (order : List ℕ) → judgeCall bytes order ≡ judgeOrder (oneDomain e) order
   pub searched : (buffer : List ℕ) (saved allowance : ℕ)
       → searchCall bytes buffer saved allowance ≡ searchReply saved buffer (searchSaved (oneDomain e) buffer saved allowance)
   pub tabled : (table : List ℕ) → tableCall bytes table ≡ tableReply table (tableMarks (oneDomain e) table)
 
--- P6: 'Old records mean what they meant.' Their attribute bytes are 0 to 2.
+-- P6: 'Old records mean what they meant.' The attribute bytes of an old record are 0 to 2.
 abbrev pub OldRecords : Type 0
 OldRecords =
     (bytes : List ℕ) (e : Execution) → readAll bytes ≡ says e

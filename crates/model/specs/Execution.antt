@@ -93,7 +93,7 @@ attributeNumber WB = 0
 attributeNumber (UC d) = 1 + 16 * d
 attributeNumber WC = 2
 
--- the attribute of a number: 0 is WB, 1 + 16 d is UC d, 2 is WC
+-- the attribute of a number: 0 is WB, 1 + 16 d is UC d, 2 and all others are WC
 abbrev pub attributeOf : ℕ → Attribute
 attributeOf a = cond (eqb a 0) WB (cond (eqb (a % 16) 1) (UC (a / 16)) WC)
 
@@ -112,7 +112,7 @@ isUC WB = false
 isUC (UC d) = true
 isUC WC = false
 
--- UC of one domain, d
+-- UC of domain d
 abbrev pub isUCof : ℕ → Attribute → Bool
 isUCof d WB = false
 isUCof d (UC c) = eqb d c

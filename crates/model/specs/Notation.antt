@@ -24,7 +24,7 @@ uc = zeros 1
 abbrev pub wc : List ℕ
 wc = zeros 2
 
--- of domain d; `uc` is of domain 0
+-- a UC line of domain d; `uc` is of domain 0
 abbrev pub uc-of : ℕ → List ℕ
 uc-of d = zeros (1 + 16 * d)
 

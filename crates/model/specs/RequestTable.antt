@@ -15,9 +15,9 @@ use Rattle.model.specs.Rows.{Row, lent, judged, searched, tabled, printe
 unfoldable pub nothing : List ℕ
 nothing = recordOf (wb ∷ []) ([] ∷ [] ∷ []) []
 
--- P6: on the lines of x and y, ld x sees 1, st y=1; ld y sees 1, st x=1
-abbrev boards : List ℕ → List ℕ → List ℕ
-boards lineX lineY = two lineX lineY (ld x 1 ∷ st y 1 ∷ []) (ld y 1 ∷ st x 1 ∷ [])
+-- P6: load buffering, on these lines of x and y: ld x sees 1, st y=1; ld y sees 1, st x=1
+abbrev load-buffering : List ℕ → List ℕ → List ℕ
+load-buffering lineX lineY = two lineX lineY (ld x 1 ∷ st y 1 ∷ []) (ld y 1 ∷ st x 1 ∷ [])
 
 unfoldable pub requestTable : List Row
 requestTable =
@@ -50,9 +50,9 @@ requestTable =
     ∷ judged (one (uc-of 2) (uc-of 1) (st x 1 ∷ ld y 0 ∷ [])) (2 ∷ 0 ∷ 1 ∷ []) legal
     ∷ judged (one (uc-of 1) (uc-of 1) (st x 1 ∷ st y 1 ∷ [])) (2 ∷ 0 ∷ 1 ∷ 3 ∷ []) (breaks 13)
     ∷ judged (one (uc-of 1) uc (st x 1 ∷ st y 1 ∷ [])) (2 ∷ 0 ∷ 1 ∷ 3 ∷ []) legal
-    ∷ searched (boards uc uc) [] 1000 forbidden 0 []
-    ∷ searched (boards (uc-of 2) (uc-of 2)) [] 1000 forbidden 0 []
-    ∷ searched (boards uc (uc-of 1)) [] 1000 allowed 8 (1 ∷ 2 ∷ 3 ∷ 4 ∷ 5 ∷ 7 ∷ 6 ∷ 0 ∷ [])
+    ∷ searched (load-buffering uc uc) [] 1000 forbidden 0 []
+    ∷ searched (load-buffering (uc-of 2) (uc-of 2)) [] 1000 forbidden 0 []
+    ∷ searched (load-buffering uc (uc-of 1)) [] 1000 allowed 8 (1 ∷ 2 ∷ 3 ∷ 4 ∷ 5 ∷ 7 ∷ 6 ∷ 0 ∷ [])
     ∷ tabled (one (uc-of 3) (uc-of 3) (ld x 0 ∷ ld y 0 ∷ [])) (0 ∷ 1 ∷ 0 ∷ 0 ∷ [])
     ∷ tabled (one (uc-of 3) (uc-of 2) (ld x 0 ∷ ld y 0 ∷ [])) (0 ∷ 0 ∷ 0 ∷ 0 ∷ [])
     -- P6: rules 9, 10, 12 and 14 ignore the domain

@@ -231,7 +231,7 @@ pub fn is_attribute(a: u8) -> bool
     }
 }
 
-// The attribute of a number.
+// The attribute of a number; WC where it is neither WB's nor that of a domain.
 pub fn attribute_of(a: u8) -> Attribute
     ensures { λ r. ⌜ attributeMeant r ≡ attributeOf a ⌝ }
 {

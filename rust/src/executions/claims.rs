@@ -156,6 +156,7 @@ impl Draft {
             return Ok(vec![read_alternatives(words)?; count]);
         }
         if self.find_address(next).is_none() {
+            // Where nothing follows, that is the fault.
             words.take(&attributes())?;
             return words.fault(format!(
                 "`{next}` is neither a memory attribute nor a place: write {}, or one of these after each place: {}",

@@ -18,6 +18,8 @@ pub const MAX_OPERATIONS: usize = 128;
 pub const MAX_PAIRS: usize = 40;
 /// Peripheral domains of UC memory, numbered from 0 (document 02, P6).
 pub const DOMAINS: u8 = 4;
+/// How far apart the attribute bytes of two neighbouring domains are.
+const PER_DOMAIN: u8 = 16;
 /// Bytes of memory that one line holds.
 pub const LINE_SIZE: usize = 8;
 /// Record bytes of a line: attribute and initial bytes.
@@ -89,11 +91,13 @@ impl Attribute {
 
     /// The attribute of a record's attribute byte (question 4).
     pub fn of(byte: u8) -> Option<Attribute> {
-        let domain = byte / 16;
+        let domain = byte / PER_DOMAIN;
         match byte {
             0 => Some(Attribute::WriteBack),
             2 => Some(Attribute::WriteCoalescing),
-            _ if byte % 16 == 1 && domain < DOMAINS => Some(Attribute::Uncacheable { domain }),
+            _ if byte % PER_DOMAIN == 1 && domain < DOMAINS => {
+                Some(Attribute::Uncacheable { domain })
+            }
             _ => None,
         }
     }
@@ -102,7 +106,7 @@ impl Attribute {
     pub fn byte(self) -> u8 {
         match self {
             Attribute::WriteBack => 0,
-            Attribute::Uncacheable { domain } => 1 + 16 * domain,
+            Attribute::Uncacheable { domain } => 1 + PER_DOMAIN * domain,
             Attribute::WriteCoalescing => 2,
         }
     }
