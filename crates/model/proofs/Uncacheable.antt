@@ -13,7 +13,7 @@ use Rattle.base.proofs.Bools.{split, agree, and-parts, and-both}
 use Rattle.base.proofs.Lists.{any-witness, any-member, any-map, member-any, in-below, of-below}
 use Rattle.model.specs.Execution.{Attribute, WB, UC, WC, attributeNumber, attributeOf, attributes, isWB, isUC, sameDomain, Line, noLine, Instruction, Execution, Operation, isRelease, R, LV, numberOf, operations, allOperations, everyProcessor, stores, loads, lineAt, attributeAt, initialByte}
 use Rattle.model.specs.Questions.{found, item, byte, ask, many, question2, question3, question4, question15, lineOf, readLine, readLines, readInstructions, readPairs, readRecord}
-use Rattle.model.specs.Rules.{isRorLV, earlier, link1, link2, link3, link4, link5, link6, link7, paired, link8, inWB, inUC, inOneDomain, link13, Claim, never, sees, addresses, overlap, RV-own, linksOf, conflict, forConflicts, rule9, rule10, sightOf, rule11, remoteOf, rule12, rule14, rules}
+use Rattle.model.specs.Rules.{isRorLV, earlier, paired, link8, inWB, inUC, inOneDomain, link13, Claim, never, sees, addresses, overlap, RV-own, linksOf, conflict, forConflicts, rule9, rule10, sightOf, rule11, remoteOf, rule12, rule14, rules}
 use Rattle.model.specs.Calls.{judgeOrder, judgeCall, searchSaved, searchReply, searching, searchCall, tableMarks, tableReply, tabling, tableCall}
 use Rattle.model.specs.Claims.{AttributeNumbers, withoutDomain, lineWithoutDomain, oneDomain, oldLink13, oldRules, OneDomain, attributeByte, OldRecords}
 use Rattle.model.proofs.Asking.{after-says}
@@ -154,35 +154,13 @@ module _ (e : Execution) where
   rule14-one = λ i. for (stores e) (λ w. for (loads e) (λ l.
       when (uc-one w i && (eqb (w .processor) (l .processor) && overlap w l)) (never (numberOf w LV) (numberOf l R) (RV-own w) ∷ [])))
 
-  links-one : (link : Operation → Operation → Bool) → linksOf (oneDomain e) link ≡ linksOf e link
-  unfolding linksOf allOperations oneDomain
-  links-one link = refl
-
-  link13s-one : linksOf (oneDomain e) (link13 (oneDomain e)) ≡ linksOf e (oldLink13 e)
-  link13s-one = links-one (link13 (oneDomain e)) ∙ ap (linksOf e) (λ i a b. link13-one a b i)
-
-  link8s-one : linksOf (oneDomain e) (link8 (oneDomain e)) ≡ linksOf e (link8 e)
-  link8s-one = links-one (link8 (oneDomain e)) ∙ ap (linksOf e) (λ i a b. link8-one a b i)
-
+  -- rules 1 to 8 by computation
   rules-one : rules (oneDomain e) ≡ oldRules e
-  unfolding rules oldRules
-  rules-one =
-      cc (
-        links-one link1,
-        links-one link2,
-        links-one link3,
-        links-one link4,
-        links-one link5,
-        links-one link6,
-        links-one link7,
-        link8s-one,
-        rule9-one,
-        rule10-one,
-        rule11-one,
-        rule12-one,
-        link13s-one,
-        rule14-one,
-      )
+  unfolding rules oldRules linksOf allOperations link8 paired oneDomain
+  rules-one = cc (rule9-one, rule10-one, rule11-one, rule12-one, links13-one, rule14-one)
+    where
+      links13-one : linksOf (oneDomain e) (link13 (oneDomain e)) ≡ linksOf e (oldLink13 e)
+      links13-one = ap (linksOf e) (λ i a b. link13-one a b i)
 
 pub one-domain : OneDomain
 one-domain e = (rules-one e, λ a b. (link8-one e a b, link13-one e a b))

@@ -33,7 +33,7 @@ pub fn is_wb(a: Attribute) -> bool
 {
     match a {
         Attribute::WB => true,
-        Attribute::UC(d) => false,
+        Attribute::UC(_) => false,
         Attribute::WC => false,
     }
 }
@@ -43,7 +43,7 @@ pub fn is_uc(a: Attribute) -> bool
 {
     match a {
         Attribute::WB => false,
-        Attribute::UC(d) => true,
+        Attribute::UC(_) => true,
         Attribute::WC => false,
     }
 }
