@@ -20,9 +20,9 @@ pub enum Judgement {
 }
 
 // What an order of an accepted execution comes to: questions 16 and 17, then the rules.
-fn judge_order(x: Execution, order: &[u8]) -> Judgement
-    requires { ⌜ Accepted (executionOf x) ⌝ }
-    ensures { λ r. ⌜ judgementMeant r ≡ judgeOrder (executionOf x) (now (order .entry)) ⌝ }
+fn judge_order(bytes: &[u8], x: Execution, order: &[u8]) -> Judgement
+    requires { ⌜ Accepted (executionOf (now bytes) x) ⌝ }
+    ensures { λ r. ⌜ judgementMeant r ≡ judgeOrder (executionOf (now (bytes .entry)) x) (now (order .entry)) ⌝ }
 {
     let t = operations_of(x.instructions, x.processors);
     let n = t.count;
@@ -35,7 +35,7 @@ fn judge_order(x: Execution, order: &[u8]) -> Judgement
     }
     let places = placing.places;
     let marks = all_marks(x);
-    let lowest = lowest_broken(x, t, &marks, &places);
+    let lowest = lowest_broken(bytes, x, t, &marks, &places);
     match lowest {
         Lowest::Unbroken => Judgement::Legal,
         Lowest::Broken(rule) => Judgement::Breaks(rule),
@@ -49,7 +49,7 @@ pub fn judge(bytes: &[u8], order: &[u8]) -> Judgement
     let reading = read(bytes);
     let answer = reading.answer;
     match answer {
-        Answer::Accepted => judge_order(reading.execution, order),
+        Answer::Accepted => judge_order(bytes, reading.execution, order),
         Answer::Refused(q) => Judgement::Refused(q),
     }
 }

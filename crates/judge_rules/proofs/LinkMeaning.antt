@@ -36,9 +36,9 @@ links-broken e link xs =
     against : Link → Bool
     against l = before xs (l .1) (l .0)
 
-module _ {x : Execution} {t : Operations} {marks : List (List ℕ)} (h : Compiled x t marks) where
+module _ {bytes : List ℕ} {x : Execution} {t : Operations} {marks : List (List ℕ)} (h : Compiled bytes x t marks) where
   abbrev e : model.Execution
-  e = executionOf x
+  e = executionOf bytes x
 
   module _ {n : ℕ} {xs places : List ℕ} (p : Placed n xs places) (rule : ℕ) where
     -- two operations

@@ -45,9 +45,9 @@ four true true c d = refl
 four true false c d = refl
 four false b c d = refl
 
-module _ (x : Execution) where
+module _ (bytes : List ℕ) (x : Execution) where
   abbrev e : model.Execution
-  e = executionOf x
+  e = executionOf bytes x
 
   abbrev instruction : ℕ → model.Instruction
   instruction i = instructionAt (x .instructions) i
@@ -69,7 +69,7 @@ module _ (x : Execution) where
       ∙ any-below-same _ _ number (λ i l. ap (λ (t : Bool). q (instruction i) && t) (sort-by-number r (p (instruction i)))
       ∙ sym (any-below-and (q (instruction i)) (λ j. r (instruction j) && p (instruction i) (instruction j)) number))
 
-  module _ {t : Operations} {marks : List (List ℕ)} (h : Compiled x t marks) {n : ℕ} {xs places : List ℕ} (p : Placed n xs places) where
+  module _ {t : Operations} {marks : List (List ℕ)} (h : Compiled bytes x t marks) {n : ℕ} {xs places : List ℕ} (p : Placed n xs places) where
     -- bit k of two instructions
     bit-is : (k : ℕ) (i j : ℕ) → i < number → j < number → bit (markAt marks i j) k ≡ getD (marksOf e (instruction i) (instruction j)) k false
     unfolding marksBetween

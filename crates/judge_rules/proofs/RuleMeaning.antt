@@ -17,9 +17,9 @@ use Rattle.judge_rules.proofs.LinkMeaning.{links-mean}
 use Rattle.judge_rules.proofs.PairMeaning.{rule9-means, rule10-means, rule12-means, rule14-means}
 use Rattle.judge_rules.proofs.LowestLaws.{link-rule}
 
-module _ {x : Execution} {t : Operations} {marks : List (List ℕ)} (h : Compiled x t marks) {n : ℕ} {xs places : List ℕ} (p : Placed n xs places) (rule : ℕ) where
+module _ {bytes : List ℕ} {x : Execution} {t : Operations} {marks : List (List ℕ)} (h : Compiled bytes x t marks) {n : ℕ} {xs places : List ℕ} (p : Placed n xs places) (rule : ℕ) where
   abbrev e : model.Execution
-  e = executionOf x
+  e = executionOf bytes x
 
   -- the claims of the rule
   abbrev breaks : ℕ → Bool
@@ -33,11 +33,11 @@ module _ {x : Execution} {t : Operations} {marks : List (List ℕ)} (h : Compile
 
   pub means9 : rule ≡ 9 → pairs rule ≡ breaks rule
   unfolding rules
-  means9 q = by-number 9 q (rule9-means x h p (t .count))
+  means9 q = by-number 9 q (rule9-means bytes x h p (t .count))
 
   pub means10 : rule ≡ 10 → pairs rule ≡ breaks rule
   unfolding rules
-  means10 q = by-number 10 q (rule10-means x h p (t .count))
+  means10 q = by-number 10 q (rule10-means bytes x h p (t .count))
 
   pub means11 : rule ≡ 11 → any (broken xs) (rule11 e) ≡ breaks rule
   unfolding rules
@@ -45,11 +45,11 @@ module _ {x : Execution} {t : Operations} {marks : List (List ℕ)} (h : Compile
 
   pub means12 : rule ≡ 12 → pairs rule ≡ breaks rule
   unfolding rules
-  means12 q = by-number 12 q (ap (λ (N : ℕ). pairsBroken places 12 (x .instructions) marks N (x .processors)) (h .tabled .counts) ∙ rule12-means x h p)
+  means12 q = by-number 12 q (ap (λ (N : ℕ). pairsBroken places 12 (x .instructions) marks N (x .processors)) (h .tabled .counts) ∙ rule12-means bytes x h p)
 
   pub means14 : rule ≡ 14 → pairs rule ≡ breaks rule
   unfolding rules
-  means14 q = by-number 14 q (rule14-means x h p (t .count))
+  means14 q = by-number 14 q (rule14-means bytes x h p (t .count))
 
   pub means-links : 1 ≤ rule → rule ≤ 14 → (rule ≡ 9 → ⊥) → (rule ≡ 10 → ⊥) → (rule ≡ 11 → ⊥) → (rule ≡ 12 → ⊥) → (rule ≡ 14 → ⊥)
       → linksBroken places rule (t .count) (t .owners) (t .roles) (x .instructions .processors) marks ≡ breaks rule

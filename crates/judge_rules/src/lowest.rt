@@ -27,21 +27,22 @@ pub enum Lowest {
 // Whether a prefix breaks a rule from 1 to 14.
 fn rule_broken(
     rule: u8,
+    bytes: &[u8],
     x: Execution,
     t: Operations,
     marks: &[[u16; MOST_INSTRUCTIONS]; MOST_INSTRUCTIONS],
     places: &[u8; Position::LIMIT],
 ) -> bool
     requires { ⌜ (1 ≤ rule) × (rule ≤ 14) × (x .instructions .count ≤ 40) × (x .lines .count ≤ 8) × (x .processors ≤ 8) × (t .count ≤ 128) ⌝ }
-    requires { ⌜ Compiled x t (now marks) ⌝ }
-    ensures { λ r. ⌜ ((n : ℕ) (xs : List ℕ) → Placed n xs (now (places .entry)) → r ≡ any (broken xs) (getD (rules (executionOf x)) (rule - 1) [])) ⌝ }
+    requires { ⌜ Compiled (now bytes) x t (now marks) ⌝ }
+    ensures { λ r. ⌜ ((n : ℕ) (xs : List ℕ) → Placed n xs (now (places .entry)) → r ≡ any (broken xs) (getD (rules (executionOf (now (bytes .entry)) x)) (rule - 1) [])) ⌝ }
 {
     let is = x.instructions;
     let n = t.count;
     match rule {
         9 => pairs_broken(rule, is, marks, n, x.processors, places),
         10 => pairs_broken(rule, is, marks, n, x.processors, places),
-        11 => sights_broken(x, places),
+        11 => sights_broken(bytes, x, places),
         12 => pairs_broken(rule, is, marks, n, x.processors, places),
         14 => pairs_broken(rule, is, marks, n, x.processors, places),
         _ => {
@@ -55,18 +56,19 @@ fn rule_broken(
 
 // The lowest rule that a prefix breaks.
 pub fn lowest_broken(
+    bytes: &[u8],
     x: Execution,
     t: Operations,
     marks: &[[u16; MOST_INSTRUCTIONS]; MOST_INSTRUCTIONS],
     places: &[u8; Position::LIMIT],
 ) -> Lowest
     requires { ⌜ (x .instructions .count ≤ 40) × (x .lines .count ≤ 8) × (x .processors ≤ 8) × (t .count ≤ 128) ⌝ }
-    requires { ⌜ Compiled x t (now marks) ⌝ }
-    ensures { λ r. ⌜ ((n : ℕ) (xs : List ℕ) → Placed n xs (now (places .entry)) → lowestMeant r ≡ lowestBroken (executionOf x) xs) ⌝ }
+    requires { ⌜ Compiled (now bytes) x t (now marks) ⌝ }
+    ensures { λ r. ⌜ ((n : ℕ) (xs : List ℕ) → Placed n xs (now (places .entry)) → lowestMeant r ≡ lowestBroken (executionOf (now (bytes .entry)) x) xs) ⌝ }
 {
     for k in 0u8..RULES {
         let rule = k + 1;
-        if rule_broken(rule, x, t, marks, places) {
+        if rule_broken(rule, bytes, x, t, marks, places) {
             return Lowest::Broken(rule);
         }
     }

@@ -12,16 +12,16 @@ use Rattle.base.specs.Below.{anyBelow}
 use Rattle.base.specs.Fold.{fold}
 use Rattle.base.proofs.Lists.{any-append, any-one, any-keep, any-map, any-for, count-more, keep-keep, keep-same, keep-map, map-map}
 use Rattle.base.proofs.Tests.{any-numbered, any-below, any-below-same}
-use Rattle.model.specs.Execution as model
-use Rattle.model.specs.Execution.{isLoad, isStore, LV, RV, numberOf, initialByte, loads, stores}
+use Rattle.model.specs.Execution.{isLoad, isStore, LV, RV, numberOf, loads, stores}
 use Rattle.model.specs.Rules.{Sight, Writer, sees, accesses, addresses, before, latest, local, byteRead, sightOf, rule11, broken}
 use Rattle.record_decoded.specs.declared.types.Instructions.{Instructions}
 use Rattle.record_decoded.specs.declared.types.Execution.{Execution}
-use Rattle.record_decoded.specs.Decoded.{instructionAt, instructionsOf, executionOf}
+use Rattle.record_decoded.specs.Decoded.{instructionAt, instructionsOf, initialOf, executionOf}
+use Rattle.record_decoded.proofs.InitialBytes.{initial-is}
 use Rattle.relation_places.specs.Places.{placed, Placed}
 use Rattle.relation_places.proofs.PlaceLaws.{before-placed, member-placed}
 use Rattle.judge_sights.specs.declared.Latest.{Latest}
-use Rattle.judge_sights.specs.Sights.{initialOf, dataByte, writesTo, sameProcessor, readNo, localNo, remoteNo, mayGive, visibleBy, makesLocal, localBy, laterBy, latestWith, latestBy, readBy, sightBroken, loadBroken}
+use Rattle.judge_sights.specs.Sights.{dataByte, writesTo, sameProcessor, readNo, localNo, remoteNo, mayGive, visibleBy, makesLocal, localBy, laterBy, latestWith, latestBy, readBy, readAt, sightBroken, loadBroken}
 use Rattle.judge_sights.proofs.LatestLaws.{latest-nothing, latest-more}
 
 -- The stores to a byte, by their numbers
@@ -64,10 +64,10 @@ module _ (is : Instructions) (load address : ℕ) where
       ∙ ap (map (λ w. (remoteNo is load w, dataByte is w (address - instructionAt is w .address))))
       (keep-same (writesTo is address) (λ w. writesTo is address w && true) (λ w. sym (and-true (writesTo is address w))) ks)
 
-module _ (x : Execution) (load address : ℕ) where
+module _ (bytes : List ℕ) (x : Execution) (load address : ℕ) where
   -- the sight of a byte of a load
   unfoldable pub sight : Sight
-  sight = sightOf (executionOf x) (instructionAt (x .instructions) load) address
+  sight = sightOf (executionOf bytes x) (instructionAt (x .instructions) load) address
 
   sight-writers : sight .writers ≡ writers (x .instructions) load address (below (x .instructions .count))
   unfolding sight sightOf executionOf instructionsOf stores writers writerAt writesTo sameProcessor localNo remoteNo dataByte
@@ -91,14 +91,14 @@ module _ (x : Execution) (load address : ℕ) where
   unfolding sight sightOf readNo
   sight-reads = refl
 
-  sight-initial : sight .initial ≡ initialOf (x .lines) address
-  unfolding sight sightOf executionOf initialByte model.lineAt initialOf
-  sight-initial = refl
+  sight-initial : sight .initial ≡ initialOf bytes (x .lines .count) address
+  unfolding sight sightOf
+  sight-initial = initial-is bytes x address
 
 -- the byte seen
-sight-seen : (x : Execution) (load k : ℕ) → sight x load (instructionAt (x .instructions) load .address + k) .seen ≡ dataByte (x .instructions) load k
+sight-seen : (bytes : List ℕ) (x : Execution) (load k : ℕ) → sight bytes x load (instructionAt (x .instructions) load .address + k) .seen ≡ dataByte (x .instructions) load k
 unfolding sight sightOf dataByte
-sight-seen x load k =
+sight-seen bytes x load k =
     ap (λ (j : ℕ). getD (instructionAt (x .instructions) load .bytes) j 0)
     (let z : instructionAt (x .instructions) load .address + k - instructionAt (x .instructions) load .address ≡ k = omega arith in z)
 
@@ -176,11 +176,11 @@ module _ {n : ℕ} {xs places : List ℕ} (h : Placed n xs places) where
         ∙ ap (λ (k : ℕ). fold k (latestWith is places load address b) (record { next = 0; value = initial }) .value) (let z : 0 + is .count ≡ is .count = omega arith in z)
 
   -- the load is local
-  module _ (x : Execution) (load address : ℕ) where
+  module _ (bytes : List ℕ) (x : Execution) (load address : ℕ) where
     localTest : Writer → Bool
     localTest w = w .own && (before xs (w .lv) (readNo (x .instructions) load) && before xs (readNo (x .instructions) load) (w .rv))
 
-    local-test : local xs (sight x load address) ≡ any localTest (sight x load address .writers)
+    local-test : local xs (sight bytes x load address) ≡ any localTest (sight bytes x load address .writers)
     unfolding local sight sightOf localTest readNo
     local-test = refl
 
@@ -191,60 +191,60 @@ module _ {n : ℕ} {xs places : List ℕ} (h : Placed n xs places) where
         (before-placed h (localNo (x .instructions) w) (readNo (x .instructions) load))
         (before-placed h (readNo (x .instructions) load) (remoteNo (x .instructions) load w))
 
-    local-by : local xs (sight x load address) ≡ localBy (x .instructions) places load address
+    local-by : local xs (sight bytes x load address) ≡ localBy (x .instructions) places load address
     unfolding writers localBy
     local-by =
         local-test
-        ∙ ap (any localTest) (sight-writers x load address)
+        ∙ ap (any localTest) (sight-writers bytes x load address)
         ∙ any-map localTest (writerAt (x .instructions) load address) (keep (writesTo (x .instructions) address) (below (x .instructions .count)))
         ∙ any-keep (λ w. localTest (writerAt (x .instructions) load address w)) (writesTo (x .instructions) address) (below (x .instructions .count))
         ∙ any-below (λ w. writesTo (x .instructions) address w && localTest (writerAt (x .instructions) load address w)) (x .instructions .count)
         ∙ any-below-same (λ w. writesTo (x .instructions) address w && localTest (writerAt (x .instructions) load address w)) (makesLocal (x .instructions) places load address) (x .instructions .count) (λ w l. local-at w)
 
     -- the byte that it sees
-    read-by : byteRead xs (sight x load address) ≡ readBy x places load address
-    unfolding byteRead readBy
+    read-by : byteRead xs (sight bytes x load address) ≡ readAt bytes x places load address
+    unfolding byteRead readAt readBy
     read-by =
-        rw (local-by, sight-writers x load address, sight-reads x load address, sight-initial x load address)
+        rw (local-by, sight-writers bytes x load address, sight-reads bytes x load address, sight-initial bytes x load address)
         (go (localBy (x .instructions) places load address))
       where
         go : (b : Bool)
             → cond b
-            (latest (map (λ w. (w .lv, w .wrote)) (keep (λ w. w .own) (writers (x .instructions) load address (below (x .instructions .count))))) (readNo (x .instructions) load) (initialOf (x .lines) address) xs)
-            (latest (map (λ w. (w .rv, w .wrote)) (writers (x .instructions) load address (below (x .instructions .count)))) (readNo (x .instructions) load) (initialOf (x .lines) address) xs)
-            ≡ latestBy (x .instructions) places load address b (initialOf (x .lines) address)
+            (latest (map (λ w. (w .lv, w .wrote)) (keep (λ w. w .own) (writers (x .instructions) load address (below (x .instructions .count))))) (readNo (x .instructions) load) (initialOf bytes (x .lines .count) address) xs)
+            (latest (map (λ w. (w .rv, w .wrote)) (writers (x .instructions) load address (below (x .instructions .count)))) (readNo (x .instructions) load) (initialOf bytes (x .lines .count) address) xs)
+            ≡ latestBy (x .instructions) places load address b (initialOf bytes (x .lines .count) address)
         go true =
             rw (entries-local (x .instructions) load address (below (x .instructions .count)))
-            (latest-all (x .instructions) load address true (initialOf (x .lines) address))
+            (latest-all (x .instructions) load address true (initialOf bytes (x .lines .count) address))
         go false =
             rw (entries-remote (x .instructions) load address (below (x .instructions .count)))
-            (latest-all (x .instructions) load address false (initialOf (x .lines) address))
+            (latest-all (x .instructions) load address false (initialOf bytes (x .lines .count) address))
 
   -- one byte of a load
-  sight-by : (x : Execution) (load k : ℕ) → broken xs (sees (sight x load (instructionAt (x .instructions) load .address + k))) ≡ sightBroken x places load k
+  sight-by : (bytes : List ℕ) (x : Execution) (load k : ℕ) → broken xs (sees (sight bytes x load (instructionAt (x .instructions) load .address + k))) ≡ sightBroken bytes x places load k
   unfolding broken sightBroken
-  sight-by x load k =
+  sight-by bytes x load k =
       ap₂ (λ (s t : Bool). s && not t)
-      (ap (member xs) (sight-reads x load (instructionAt (x .instructions) load .address + k)) ∙ member-placed h (readNo (x .instructions) load))
-      (ap₂ eqb (read-by x load (instructionAt (x .instructions) load .address + k)) (sight-seen x load k))
+      (ap (member xs) (sight-reads bytes x load (instructionAt (x .instructions) load .address + k)) ∙ member-placed h (readNo (x .instructions) load))
+      (ap₂ eqb (read-by bytes x load (instructionAt (x .instructions) load .address + k)) (sight-seen bytes x load k))
 
   -- the bytes of a load
-  pub load-by : (x : Execution) (i : ℕ)
+  pub load-by : (bytes : List ℕ) (x : Execution) (i : ℕ)
       → (isLoad (instructionAt (x .instructions) i .kind)
-      && any (broken xs) (map (λ b. sees (sight x i b)) (addresses (instructionAt (x .instructions) i))))
-      ≡ loadBroken x places i
+      && any (broken xs) (map (λ b. sees (sight bytes x i b)) (addresses (instructionAt (x .instructions) i))))
+      ≡ loadBroken bytes x places i
   unfolding addresses loadBroken
-  load-by x i =
+  load-by bytes x i =
       ap (λ (t : Bool). isLoad (instructionAt (x .instructions) i .kind) && t)
-      (any-map (broken xs) (λ b. sees (sight x i b)) (count (instructionAt (x .instructions) i .address) (instructionAt (x .instructions) i .size))
-      ∙ any-count (λ b. broken xs (sees (sight x i b))) (instructionAt (x .instructions) i .address) (instructionAt (x .instructions) i .size)
-      ∙ any-below-same (λ k. broken xs (sees (sight x i (instructionAt (x .instructions) i .address + k)))) (sightBroken x places i) (instructionAt (x .instructions) i .size) (λ k l. sight-by x i k))
+      (any-map (broken xs) (λ b. sees (sight bytes x i b)) (count (instructionAt (x .instructions) i .address) (instructionAt (x .instructions) i .size))
+      ∙ any-count (λ b. broken xs (sees (sight bytes x i b))) (instructionAt (x .instructions) i .address) (instructionAt (x .instructions) i .size)
+      ∙ any-below-same (λ k. broken xs (sees (sight bytes x i (instructionAt (x .instructions) i .address + k)))) (sightBroken bytes x places i) (instructionAt (x .instructions) i .size) (λ k l. sight-by bytes x i k))
 
   -- all loads
-  pub rule-by : (x : Execution) → any (broken xs) (rule11 (executionOf x)) ≡ anyBelow (x .instructions .count) (loadBroken x places)
+  pub rule-by : (bytes : List ℕ) (x : Execution) → any (broken xs) (rule11 (executionOf bytes x)) ≡ anyBelow (x .instructions .count) (loadBroken bytes x places)
   unfolding rule11 loads executionOf instructionsOf sight
-  rule-by x =
-      any-for (broken xs) (keep (λ i. isLoad (i .kind)) (map (instructionAt (x .instructions)) (below (x .instructions .count)))) (λ l. map (λ b. sees (sightOf (executionOf x) l b)) (addresses l))
-      ∙ any-keep (λ l. any (broken xs) (map (λ b. sees (sightOf (executionOf x) l b)) (addresses l))) (λ i. isLoad (i .kind)) (map (instructionAt (x .instructions)) (below (x .instructions .count)))
-      ∙ any-numbered (λ l. isLoad (l .kind) && any (broken xs) (map (λ b. sees (sightOf (executionOf x) l b)) (addresses l))) (instructionAt (x .instructions)) (x .instructions .count)
-      ∙ any-below-same (λ i. isLoad (instructionAt (x .instructions) i .kind) && any (broken xs) (map (λ b. sees (sight x i b)) (addresses (instructionAt (x .instructions) i)))) (loadBroken x places) (x .instructions .count) (λ i l. load-by x i)
+  rule-by bytes x =
+      any-for (broken xs) (keep (λ i. isLoad (i .kind)) (map (instructionAt (x .instructions)) (below (x .instructions .count)))) (λ l. map (λ b. sees (sightOf (executionOf bytes x) l b)) (addresses l))
+      ∙ any-keep (λ l. any (broken xs) (map (λ b. sees (sightOf (executionOf bytes x) l b)) (addresses l))) (λ i. isLoad (i .kind)) (map (instructionAt (x .instructions)) (below (x .instructions .count)))
+      ∙ any-numbered (λ l. isLoad (l .kind) && any (broken xs) (map (λ b. sees (sightOf (executionOf bytes x) l b)) (addresses l))) (instructionAt (x .instructions)) (x .instructions .count)
+      ∙ any-below-same (λ i. isLoad (instructionAt (x .instructions) i .kind) && any (broken xs) (map (λ b. sees (sight bytes x i b)) (addresses (instructionAt (x .instructions) i)))) (loadBroken bytes x places) (x .instructions .count) (λ i l. load-by bytes x i)

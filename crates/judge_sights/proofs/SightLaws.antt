@@ -1,5 +1,5 @@
 -- What the tests of one byte of a load come to, case by case.
-use Prim.Native.Nat.{ℕ, _+_, _-_, _*_, _/_, _%_, _≤_, _<_}
+use Prim.Native.Nat.{ℕ, _+_, _-_, _*_, _≤_, _<_}
 use native.Mathlib.Omega.{arith}
 use mathlib.Core.Path.{_≡_, sym, ap, _∙_}
 use mathlib.Core.Bool.{Bool, true, false, not, _||_, and-false}
@@ -10,33 +10,14 @@ use lib.Dec.{eqb, leb, ltb}
 use borrow.Author.Tests.{lt-ltb, le-ltb, le-leb, lt-leb, leb-true}
 use Rattle.base.specs.Below.{anyBelow}
 use Rattle.base.proofs.Bools.{and-parts}
-use Rattle.base.proofs.Lists.{getD-below}
-use Rattle.model.specs.Execution.{Line, noLine, Kind, kindOf, isLoad, isStore}
+use Rattle.model.specs.Execution.{Kind, kindOf, isLoad, isStore}
 use Rattle.model.specs.Rules.{accesses}
-use Rattle.record_decoded.specs.declared.types.Lines.{Lines}
 use Rattle.record_decoded.specs.declared.types.Instructions.{Instructions}
 use Rattle.record_decoded.specs.declared.types.Execution.{Execution}
-use Rattle.record_decoded.specs.Decoded.{eight, decodedLine, linesOf, instructionAt}
-use Rattle.record_decoded.proofs.Arrays.{lines-length}
+use Rattle.record_decoded.specs.Decoded.{eight, initialOf, instructionAt}
 use Rattle.relation_places.specs.Places.{placed}
 use Rattle.judge_sights.specs.declared.Latest.{Latest}
-use Rattle.judge_sights.specs.Sights.{initialOf, dataByte, writesTo, sameProcessor, readNo, localNo, remoteNo, makesLocal, mayGive, visibleBy, laterBy, latestWith, readBy, sightBroken, loadBroken}
-
--- the initial byte of an address past the lines, and of one in them
-module _ (x : Lines) (address : ℕ) where
-  pub initial-past : x .count ≤ address / 8 → 0 ≡ initialOf x address
-  unfolding initialOf
-  initial-past h =
-      sym (ap (λ (l : Line). getD (l .initial) (address % 8) 0)
-      (List·getD-eq-default (linesOf x) noLine {n = address / 8} (omega (arith, lines-length x))))
-
-  pub initial-there : address / 8 < x .count → getD (x .initial) address 0 ≡ initialOf x address
-  unfolding initialOf linesOf decodedLine eight
-  initial-there h =
-      sym (ap (λ (l : Line). getD (l .initial) (address % 8) 0) (getD-below (decodedLine x) noLine (x .count) (address / 8) h)
-      ∙ getD-take 8 (drop (8 * (address / 8)) (x .initial)) (address % 8) 0 (omega arith)
-      ∙ getD-drop (8 * (address / 8)) (x .initial) (address % 8) 0
-      ∙ ap (λ (k : ℕ). getD (x .initial) k 0) (let z : 8 * (address / 8) + address % 8 ≡ address = omega arith in z))
+use Rattle.judge_sights.specs.Sights.{dataByte, writesTo, sameProcessor, readNo, localNo, remoteNo, makesLocal, mayGive, visibleBy, laterBy, latestWith, readBy, readAt, sightBroken, loadBroken}
 
 -- a byte past an instruction's size, past the eight that the arrays hold, and one that is there
 module _ (is : Instructions) (i k : ℕ) where
@@ -130,24 +111,24 @@ module _ (is : Instructions) (places : List ℕ) (load address w : ℕ) where
     local-is h k l rv rv-is = rw (← lv-is, ← r-is, ← rv-is, h, k, l)
 
 -- one byte of a load
-module _ (x : Execution) (places : List ℕ) (load k p : ℕ) (p-is : p ≡ placed places (readNo (x .instructions) load)) where
-  pub sight-absent : 255 ≤ p → false ≡ sightBroken x places load k
+module _ (bytes : List ℕ) (x : Execution) (places : List ℕ) (load k p : ℕ) (p-is : p ≡ placed places (readNo (x .instructions) load)) where
+  pub sight-absent : 255 ≤ p → false ≡ sightBroken bytes x places load k
   unfolding sightBroken
   sight-absent h = rw (← p-is, le-ltb p 255 h)
 
-  pub sight-is : p < 255 → (from given seen : ℕ) → from ≡ getD (x .instructions .addresses) load 0
-      → given ≡ readBy x places load (from + k) → seen ≡ dataByte (x .instructions) load k
-      → not (eqb given seen) ≡ sightBroken x places load k
-  unfolding sightBroken instructionAt
-  sight-is h from given seen f g s = rw (← p-is, lt-ltb p 255 h, ← f, ← g, ← s)
+  pub sight-is : p < 255 → (from initial given seen : ℕ) → from ≡ getD (x .instructions .addresses) load 0
+      → initial ≡ initialOf bytes (x .lines .count) (from + k) → given ≡ readBy (x .instructions) places load (from + k) initial → seen ≡ dataByte (x .instructions) load k
+      → not (eqb given seen) ≡ sightBroken bytes x places load k
+  unfolding sightBroken readAt instructionAt
+  sight-is h from initial given seen f i g s = rw (← p-is, lt-ltb p 255 h, ← f, ← i, ← g, ← s)
 
 -- the bytes of a load
-module _ (x : Execution) (places : List ℕ) (i : ℕ) (kind : Kind) (k-is : kind ≡ kindOf (getD (x .instructions .kinds) i 0)) where
-  pub load-none : isLoad kind ≡ false → false ≡ loadBroken x places i
+module _ (bytes : List ℕ) (x : Execution) (places : List ℕ) (i : ℕ) (kind : Kind) (k-is : kind ≡ kindOf (getD (x .instructions .kinds) i 0)) where
+  pub load-none : isLoad kind ≡ false → false ≡ loadBroken bytes x places i
   unfolding loadBroken instructionAt
   load-none h = rw (← k-is, h)
 
-  pub load-is : isLoad kind ≡ true → (size : ℕ) → size ≡ getD (x .instructions .sizes) i 0 → (b : Bool) → b ≡ anyBelow size (sightBroken x places i)
-      → b ≡ loadBroken x places i
+  pub load-is : isLoad kind ≡ true → (size : ℕ) → size ≡ getD (x .instructions .sizes) i 0 → (b : Bool) → b ≡ anyBelow size (sightBroken bytes x places i)
+      → b ≡ loadBroken bytes x places i
   unfolding loadBroken instructionAt
   load-is h size s b e = rw (← k-is, h, ← s) e

@@ -1,23 +1,18 @@
 -- Rule 11 for one byte of a load, from the decoded arrays and a table of places.
-use Prim.Native.Nat.{ℕ, _+_, _-_, _/_, _%_}
+use Prim.Native.Nat.{ℕ, _+_, _-_}
 use mathlib.Core.Bool.{Bool, not, cond, _&&_, _||_}
 use mathlib.Core.List.{List}
 use lib.ListN.{getD}
 use lib.Dec.{eqb, leb, ltb}
 use Rattle.base.specs.Below.{anyBelow}
 use Rattle.base.specs.Fold.{fold}
-use Rattle.model.specs.Execution.{noLine, isLoad, isStore, R, LV, RV, numberOf}
+use Rattle.model.specs.Execution.{isLoad, isStore, R, LV, RV, numberOf}
 use Rattle.model.specs.Rules.{accesses}
-use Rattle.record_decoded.specs.declared.types.Lines.{Lines}
 use Rattle.record_decoded.specs.declared.types.Instructions.{Instructions}
 use Rattle.record_decoded.specs.declared.types.Execution.{Execution}
-use Rattle.record_decoded.specs.Decoded.{linesOf, instructionAt}
+use Rattle.record_decoded.specs.Decoded.{initialOf, instructionAt}
 use Rattle.relation_places.specs.Places.{placed}
 use Rattle.judge_sights.specs.declared.Latest.{Latest}
-
--- the byte that an address holds at the start
-unfoldable pub initialOf : Lines → ℕ → ℕ
-initialOf x address = getD (getD (linesOf x) (address / 8) noLine .initial) (address % 8) 0
 
 module _ (is : Instructions) where
   -- byte k of what an instruction saw or wrote
@@ -77,17 +72,20 @@ module _ (is : Instructions) (places : List ℕ) (load address : ℕ) where
   unfoldable pub latestBy : Bool → ℕ → ℕ
   latestBy local initial = fold (is .count) (latestWith local) (record { next = 0; value = initial }) .value
 
-module _ (x : Execution) (places : List ℕ) (load : ℕ) where
-  -- the byte that the load sees at an address
+  -- the byte that the load sees at the address, of which `initial` is the initial byte
   unfoldable pub readBy : ℕ → ℕ
-  readBy address =
-      latestBy (x .instructions) places load address (localBy (x .instructions) places load address) (initialOf (x .lines) address)
+  readBy initial = latestBy localBy initial
+
+module _ (bytes : List ℕ) (x : Execution) (places : List ℕ) (load : ℕ) where
+  -- the byte that the load sees at an address
+  unfoldable pub readAt : ℕ → ℕ
+  readAt address = readBy (x .instructions) places load address (initialOf bytes (x .lines .count) address)
 
   -- the load stands, and its byte k is another
   unfoldable pub sightBroken : ℕ → Bool
   sightBroken k =
       ltb (placed places (readNo (x .instructions) load)) 255
-      && not (eqb (readBy (instructionAt (x .instructions) load .address + k)) (dataByte (x .instructions) load k))
+      && not (eqb (readAt (instructionAt (x .instructions) load .address + k)) (dataByte (x .instructions) load k))
 
   -- some byte is another
   unfoldable pub loadBroken : Bool

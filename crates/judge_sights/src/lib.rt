@@ -7,7 +7,8 @@ ghost use Rattle.base.specs.Lists.{any};
 ghost use Rattle.model.specs.Rules.{rule11, broken};
 ghost use Rattle.record_decoded.specs.Decoded.{executionOf};
 ghost use Rattle.relation_places.specs.Places.{Placed};
-ghost use Rattle.judge_sights.specs.Sights.{initialOf, dataByte, writesTo, sameProcessor, readNo, localNo, remoteNo, mayGive, visibleBy, makesLocal, localBy, latestWith, latestBy, readBy, sightBroken, loadBroken};
+ghost use Rattle.judge_sights.specs.Sights.{dataByte, writesTo, sameProcessor, readNo, localNo, remoteNo, mayGive, visibleBy, makesLocal, localBy, latestWith, latestBy, readBy, sightBroken, loadBroken};
+use record_decoded::initial::initial_byte;
 use record_decoded::kind::Role;
 use record_decoded::kind::is_load;
 use record_decoded::kind::is_store;
@@ -18,7 +19,6 @@ use record_decoded::types::DATA_STRIDE;
 use record_decoded::types::Execution;
 use record_decoded::types::InstructionNo;
 use record_decoded::types::Instructions;
-use record_decoded::types::Lines;
 use record_decoded::types::OperationNo;
 use record_decoded::types::wide;
 use relation_places::ABSENT;
@@ -29,18 +29,6 @@ use relation_places::place_of;
 struct Latest {
     next: usize,
     value: u8,
-}
-
-// The byte that an address holds at the start.
-fn initial_byte(lines: Lines, address: usize) -> u8
-    requires { ⌜ lines .count ≤ 8 ⌝ }
-    ensures { λ r. ⌜ r ≡ initialOf lines address ⌝ }
-{
-    if lines.count <= address / 8 {
-        return 0;
-    }
-    let initial = lines.initial;
-    initial[address]
 }
 
 // Byte k of what instruction i saw or wrote.
@@ -263,41 +251,54 @@ fn latest_byte(
     latest.value
 }
 
-// The byte that the rule has the load see at an address.
+// The byte that the rule has the load see at an address, of which `initial` is the initial byte.
 fn byte_read(
-    x: Execution,
+    is: Instructions,
     places: &[u8; Position::LIMIT],
     load: InstructionNo,
     address: usize,
+    initial: u8,
 ) -> u8
-    requires { ⌜ (x .instructions .count ≤ 40) × (x .lines .count ≤ 8) × (load .0 < 40) ⌝ }
-    ensures { λ r. ⌜ r ≡ readBy x (now (places .entry)) (load .0) address ⌝ }
+    requires { ⌜ (is .count ≤ 40) × (load .0 < 40) ⌝ }
+    ensures { λ r. ⌜ r ≡ readBy is (now (places .entry)) (load .0) address initial ⌝ }
 {
-    let is = x.instructions;
     let local = is_local(is, places, load, address);
-    let initial = initial_byte(x.lines, address);
     latest_byte(is, places, load, address, local, initial)
 }
 
-// Whether the load stands and its byte k is not the one that the rule gives.
-fn sight_broken(x: Execution, places: &[u8; Position::LIMIT], load: InstructionNo, k: usize) -> bool
+// Whether the load stands and its byte k is not the one that the rule gives. Of the initial bytes, which stay in the record, it reads that of the byte's own address.
+fn sight_broken(
+    bytes: &[u8],
+    x: Execution,
+    places: &[u8; Position::LIMIT],
+    load: InstructionNo,
+    k: usize,
+) -> bool
     requires { ⌜ (x .instructions .count ≤ 40) × (x .lines .count ≤ 8) × (load .0 < 40) × (k < 256) ⌝ }
-    ensures { λ r. ⌜ r ≡ sightBroken x (now (places .entry)) (load .0) k ⌝ }
+    ensures { λ r. ⌜ r ≡ sightBroken (now (bytes .entry)) x (now (places .entry)) (load .0) k ⌝ }
 {
     let is = x.instructions;
+    let lines = x.lines;
     if place_of(places, read_no(is, load)) >= ABSENT {
         return false;
     }
-    let address = address_of(is, load) + k;
-    let given = byte_read(x, places, load, address);
+    let from = address_of(is, load);
+    let address = from + k;
+    let initial = initial_byte(bytes, lines.count, address);
+    let given = byte_read(is, places, load, address, initial);
     let seen = data_byte(is, load, k);
     given != seen
 }
 
 // Whether instruction i is a load that breaks the rule.
-pub fn load_broken(x: Execution, places: &[u8; Position::LIMIT], i: InstructionNo) -> bool
+pub fn load_broken(
+    bytes: &[u8],
+    x: Execution,
+    places: &[u8; Position::LIMIT],
+    i: InstructionNo,
+) -> bool
     requires { ⌜ (x .instructions .count ≤ 40) × (x .lines .count ≤ 8) × (i .0 < 40) ⌝ }
-    ensures { λ r. ⌜ r ≡ loadBroken x (now (places .entry)) (i .0) ⌝ }
+    ensures { λ r. ⌜ r ≡ loadBroken (now (bytes .entry)) x (now (places .entry)) (i .0) ⌝ }
 {
     let is = x.instructions;
     let kinds = is.kinds;
@@ -308,7 +309,7 @@ pub fn load_broken(x: Execution, places: &[u8; Position::LIMIT], i: InstructionN
     }
     let size = size_of(is, i);
     for k in 0..size {
-        if sight_broken(x, places, i, k) {
+        if sight_broken(bytes, x, places, i, k) {
             return true;
         }
     }
@@ -316,12 +317,12 @@ pub fn load_broken(x: Execution, places: &[u8; Position::LIMIT], i: InstructionN
 }
 
 // Whether rule 11 is broken by an order of which these are the places.
-pub fn sights_broken(x: Execution, places: &[u8; Position::LIMIT]) -> bool
+pub fn sights_broken(bytes: &[u8], x: Execution, places: &[u8; Position::LIMIT]) -> bool
     requires { ⌜ (x .instructions .count ≤ 40) × (x .lines .count ≤ 8) ⌝ }
-    ensures { λ r. ⌜ ((n : ℕ) (xs : List ℕ) → Placed n xs (now (places .entry)) → r ≡ any (broken xs) (rule11 (executionOf x))) ⌝ }
+    ensures { λ r. ⌜ ((n : ℕ) (xs : List ℕ) → Placed n xs (now (places .entry)) → r ≡ any (broken xs) (rule11 (executionOf (now (bytes .entry)) x))) ⌝ }
 {
     for i in 0..x.instructions.count {
-        if load_broken(x, places, InstructionNo(i)) {
+        if load_broken(bytes, x, places, InstructionNo(i)) {
             return true;
         }
     }

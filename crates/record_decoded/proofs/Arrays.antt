@@ -1,6 +1,7 @@
 -- How many lines and instructions the arrays hold, and the instruction at a number.
 use Prim.Native.Nat.{ℕ, _<_}
 use mathlib.Core.Path.{_≡_, _∙_}
+use mathlib.Core.List.{List}
 use lib.ListN.{length, getD, length-map}
 use Rattle.base.specs.Lists.{below}
 use Rattle.base.proofs.Lists.{length-count, getD-below}
@@ -9,9 +10,9 @@ use Rattle.record_decoded.specs.declared.types.Lines.{Lines}
 use Rattle.record_decoded.specs.declared.types.Instructions.{Instructions}
 use Rattle.record_decoded.specs.Decoded.{decodedLine, linesOf, instructionAt, instructionsOf}
 
-pub lines-length : (x : Lines) → length (linesOf x) ≡ x .count
+pub lines-length : (part : List ℕ) (x : Lines) → length (linesOf part x) ≡ x .count
 unfolding linesOf below
-lines-length x = length-map (below (x .count)) (decodedLine x) ∙ length-count 0 (x .count)
+lines-length part x = length-map (below (x .count)) (decodedLine part x) ∙ length-count 0 (x .count)
 
 pub instructions-length : (x : Instructions) → length (instructionsOf x) ≡ x .count
 unfolding instructionsOf below

@@ -2,6 +2,7 @@
 use Prim.Native.Nat.{ℕ, _<_}
 use native.Mathlib.Omega.{arith}
 use mathlib.Core.Path.{_≡_}
+use mathlib.Core.List.{List}
 use Rattle.record_decoded.specs.Decoded.{instructionsOf, executionOf}
 use Rattle.record_decoded.specs.declared.types.Execution.{Execution}
 use Rattle.model.specs.Execution.{Kind, ld, ld-acq, st, st-rel, mf, kindRow, operationCount, operations}
@@ -22,6 +23,6 @@ column-below st-rel = omega arith
 column-below mf = omega arith
 
 -- N, as the arrays count it
-pub count-is : (x : Execution) (k : ℕ) → k ≡ operationCount (x .processors) (instructionsOf (x .instructions)) → k ≡ operations (executionOf x)
+pub count-is : (bytes : List ℕ) (x : Execution) (k : ℕ) → k ≡ operationCount (x .processors) (instructionsOf (x .instructions)) → k ≡ operations (executionOf bytes x)
 unfolding operations executionOf
-count-is x k h = h
+count-is bytes x k h = h

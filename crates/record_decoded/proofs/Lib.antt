@@ -5,3 +5,4 @@ pub mod RoleNumbers
 pub mod Eights
 pub mod Items
 pub mod Arrays
+pub mod InitialBytes

@@ -1,11 +1,14 @@
--- What the decoded arrays hold, in the model's terms.
-use Prim.Native.Nat.{ℕ, _+_, _*_, _≤_}
+-- What the decoded arrays and the record's initial bytes hold, in the model's terms.
+use Prim.Native.Nat.{ℕ, _+_, _*_, _/_, _%_, _≤_}
 use mathlib.Core.Path.{_≡_}
+use mathlib.Core.Bool.{cond}
 use mathlib.Core.List.{List, map}
 use lib.ListN.{getD, take, drop}
+use lib.Dec.{ltb}
 use Rattle.base.specs.Lists.{below}
 use Rattle.model.specs.Execution as model
 use Rattle.model.specs.Execution.{kindOf, attributeOf, operationCount}
+use Rattle.model.specs.Questions.{lineLength}
 use Rattle.record_decoded.specs.declared.types.Lines.{Lines}
 use Rattle.record_decoded.specs.declared.types.Instructions.{Instructions}
 use Rattle.record_decoded.specs.declared.types.Pairs.{Pairs}
@@ -15,12 +18,16 @@ use Rattle.record_decoded.specs.declared.types.Execution.{Execution}
 unfoldable pub eight : List ℕ → ℕ → List ℕ
 eight l k = take 8 (drop (8 * k) l)
 
--- line k
-unfoldable pub decodedLine : Lines → ℕ → model.Line
-decodedLine x k = record { attribute = attributeOf (getD (x .attributes) k 0); initial = eight (x .initial) k }
+-- line k, whose initial bytes stay in the record: `part` is its section of lines, from their count on
+unfoldable pub decodedLine : List ℕ → Lines → ℕ → model.Line
+decodedLine part x k = record { attribute = attributeOf (getD (x .attributes) k 0); initial = take 8 (drop (2 + lineLength * k) part) }
 
-unfoldable pub linesOf : Lines → List model.Line
-linesOf x = map (decodedLine x) (below (x .count))
+unfoldable pub linesOf : List ℕ → Lines → List model.Line
+linesOf part x = map (decodedLine part x) (below (x .count))
+
+-- the initial byte of an address in a record of so many lines
+unfoldable pub initialOf : List ℕ → ℕ → ℕ → ℕ
+initialOf bytes count address = cond (ltb (address / 8) count) (getD bytes (3 + lineLength * (address / 8) + address % 8) 0) 0
 
 -- instruction i
 unfoldable pub instructionAt : Instructions → ℕ → model.Instruction
@@ -54,11 +61,11 @@ pairsOf x = map (pairAt x) (below (x .count))
 abbrev pub pairOf : List ℕ → ℕ → ℕ × ℕ
 pairOf part at = (getD part at 0, getD part (at + 1) 0)
 
--- the execution that the decoded arrays hold
-unfoldable pub executionOf : Execution → model.Execution
-executionOf x = record {
+-- the execution that the decoded arrays hold, with the initial bytes of the record
+unfoldable pub executionOf : List ℕ → Execution → model.Execution
+executionOf bytes x = record {
   processors = x .processors;
-  lines = linesOf (x .lines);
+  lines = linesOf (drop 1 bytes) (x .lines);
   instructions = instructionsOf (x .instructions);
   pairs = pairsOf (x .pairs);
 }

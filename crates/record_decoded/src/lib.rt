@@ -1,4 +1,5 @@
-// The decoded execution: kinds, roles, attributes, numbers, the arrays that hold an execution, and positions.
+// The decoded execution: kinds, roles, attributes, numbers, the arrays that hold an execution, the initial bytes, and positions.
+pub mod initial;
 pub mod kind;
 pub mod number;
 pub mod position;

@@ -29,11 +29,10 @@ pub struct InstructionNo(pub usize);
 // The number of an operation, from 0 through the record.
 pub struct OperationNo(pub usize);
 
-// The lines of memory. Line k's initial bytes are the eight from 8k on.
+// The lines of memory. Their initial bytes stay in the record (`initial_byte`).
 pub struct Lines {
     pub count: usize,
     pub attributes: [u8; MOST_LINES as usize],
-    pub initial: [u8; 64],
 }
 
 // The instructions by number, and the number of their operations. Instruction i's data are the DATA_STRIDE of `bytes` from

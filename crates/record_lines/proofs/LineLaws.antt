@@ -5,8 +5,8 @@ use native.Mathlib.Nat.{add-zero}
 use native.Mathlib.Numerals.{add-one}
 use mathlib.Core.Path.{_≡_, sym, ap, _∙_}
 use mathlib.Core.List.{List, [], _∷_, _++_, map}
-use lib.ListN.{length, getD, take, drop, set, length-drop}
-use lib.Seq.{paste, getD-set-same, getD-set-other, getD-take, getD-drop, drop-drop}
+use lib.ListN.{length, getD, take, drop, set}
+use lib.Seq.{getD-set-same, getD-set-other, getD-take, getD-drop, drop-drop}
 use mathlib.Core.Bool.{true, false, and-false}
 use lib.Dec.{leb}
 use borrow.Author.Tests.{le-leb, lt-leb}
@@ -15,18 +15,17 @@ use Rattle.base.proofs.Lists.{map-below-more}
 use Rattle.model.specs.Execution.{Line, attributeOf}
 use Rattle.model.specs.Questions.{lineOf, readLine, readLines, many, no-to, next, ask, question3, question4}
 use Rattle.record_decoded.specs.declared.types.Lines.{Lines}
-use Rattle.record_decoded.specs.Decoded.{eight, decodedLine, linesOf}
+use Rattle.record_decoded.specs.Decoded.{decodedLine, linesOf}
 use Rattle.record_decoded.specs.declared.types.Asked.the-variants.{Pass, Fail}
 use Rattle.record_decoded.specs.Steps.{Answered}
 use Rattle.record_decoded.proofs.Items.{item-short, item-there, item-first, byte-short, byte-there, fails, passes}
-use Rattle.record_decoded.proofs.Eights.{drop-take, eight-new, eight-old}
+use Rattle.record_decoded.proofs.Eights.{drop-take}
 
-module _ (x r : Lines) (part : List ℕ) (at : ℕ) (few : x .count < 8) (room : at + 9 ≤ length part)
-    (long : length (x .attributes) ≡ 8) (long-initial : length (x .initial) ≡ 64)
+module _ (x r : Lines) (part : List ℕ) (at : ℕ) (few : x .count < 8) (here : at ≡ 1 + 9 * x .count)
+    (long : length (x .attributes) ≡ 8)
     (counted : r .count ≡ x .count + 1)
-    (attributes : r .attributes ≡ set (x .attributes) (x .count) (getD part at 0))
-    (initial : r .initial ≡ paste (x .initial) (8 * x .count) (drop (at + 1) part) 8) where
-  line-new : decodedLine r (x .count) ≡ lineOf (take 9 (drop at part))
+    (attributes : r .attributes ≡ set (x .attributes) (x .count) (getD part at 0)) where
+  line-new : decodedLine part r (x .count) ≡ lineOf (take 9 (drop at part))
   unfolding decodedLine lineOf
   line-new = λ i. record {
     attribute = attributeOf (same i);
@@ -39,17 +38,17 @@ module _ (x r : Lines) (part : List ℕ) (at : ℕ) (few : x .count < 8) (room :
           ∙ getD-set-same (x .attributes) (x .count) (getD part at 0) 0 (omega arith)
           ∙ sym (getD-take 9 (drop at part) 0 0 (omega arith) ∙ getD-drop at part 0 0 ∙ ap (λ (k : ℕ). getD part k 0) (add-zero at))
 
-      bytes : eight (r .initial) (x .count) ≡ drop 1 (take 9 (drop at part))
+      bytes : take 8 (drop (2 + 9 * x .count) part) ≡ drop 1 (take 9 (drop at part))
       bytes =
-          ap (λ (l : List ℕ). eight l (x .count)) initial
-          ∙ eight-new (x .initial) (x .count) (drop (at + 1) part) (omega arith) (omega (arith, length-drop (at + 1) part))
+          let next : 2 + 9 * x .count ≡ at + 1 = omega arith in
+          ap (λ (k : ℕ). take 8 (drop k part)) next
           ∙ sym (drop-take 1 8 (drop at part) ∙ ap (take 8) (drop-drop 1 at part))
 
-  line-old : (j : ℕ) → j < x .count → decodedLine r j ≡ decodedLine x j
+  line-old : (j : ℕ) → j < x .count → decodedLine part r j ≡ decodedLine part x j
   unfolding decodedLine
   line-old j h = λ i. record {
     attribute = attributeOf (same i);
-    initial = bytes i;
+    initial = take 8 (drop (2 + 9 * j) part);
   }
     where
       same : getD (r .attributes) j 0 ≡ getD (x .attributes) j 0
@@ -57,15 +56,12 @@ module _ (x r : Lines) (part : List ℕ) (at : ℕ) (few : x .count < 8) (room :
           ap (λ (l : List ℕ). getD l j 0) attributes
           ∙ getD-set-other (x .attributes) (x .count) j (getD part at 0) 0 (omega arith)
 
-      bytes : eight (r .initial) j ≡ eight (x .initial) j
-      bytes = ap (λ (l : List ℕ). eight l j) initial ∙ eight-old (x .initial) (x .count) (drop (at + 1) part) (omega arith) j h
-
-  pub line-more : linesOf r ≡ linesOf x ++ (lineOf (take 9 (drop at part)) ∷ [])
+  pub line-more : linesOf part r ≡ linesOf part x ++ (lineOf (take 9 (drop at part)) ∷ [])
   unfolding linesOf
   line-more =
-      ap (λ (k : ℕ). map (decodedLine r) (below k)) (counted ∙ add-one (x .count))
-      ∙ map-below-more (decodedLine r) (decodedLine x) (x .count) line-old
-      ∙ ap (λ (l : Line). linesOf x ++ (l ∷ [])) line-new
+      ap (λ (k : ℕ). map (decodedLine part r) (below k)) (counted ∙ add-one (x .count))
+      ∙ map-below-more (decodedLine part r) (decodedLine part x) (x .count) line-old
+      ∙ ap (λ (l : Line). linesOf part x ++ (l ∷ [])) line-new
 
 -- the questions of a line
 module _ (part : List ℕ) (at : ℕ) where

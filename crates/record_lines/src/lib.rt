@@ -1,7 +1,7 @@
 // The section of lines.
 ghost use mathlib.Core.Path.{_≡_};
-ghost use mathlib.Core.List.{[], _∷_, _++_};
-ghost use Prim.Native.Nat.{_+_, _<_, _≤_};
+ghost use mathlib.Core.List.{List, [], _∷_, _++_};
+ghost use Prim.Native.Nat.{ℕ, _+_, _*_, _<_, _≤_};
 ghost use lib.ListN.{length, take, drop};
 ghost use Rattle.model.specs.Questions.{lineLength, lineOf, readLine, readLines, many};
 ghost use Rattle.record_decoded.specs.Decoded.{linesOf};
@@ -12,7 +12,6 @@ use record_decoded::types::LINE_LENGTH;
 use record_decoded::types::Lines;
 use record_decoded::types::MOST_LINES;
 use record_decoded::types::Step;
-use record_decoded::types::copy_eight;
 
 pub struct LinesRead {
     pub step: Step,
@@ -20,12 +19,11 @@ pub struct LinesRead {
 }
 
 pub fn no_lines() -> Lines
-    ensures { λ r. ⌜ (r .count ≡ 0) × (linesOf r ≡ []) ⌝ }
+    ensures { λ r. ⌜ (r .count ≡ 0) × ((part : List ℕ) → linesOf part r ≡ []) ⌝ }
 {
     Lines {
         count: 0,
         attributes: [0u8; MOST_LINES as usize],
-        initial: [0u8; 64],
     }
 }
 
@@ -45,26 +43,20 @@ fn line_question(part: &[u8], at: usize) -> Asked
 
 // One line more, from the nine bytes at `at`.
 fn with_line(x: Lines, part: &[u8], at: usize) -> Lines
-    requires { ⌜ (x .count < 8) × (at + lineLength ≤ length (now part)) ⌝ }
-    ensures { λ r. ⌜ (r .count ≡ x .count + 1) × (linesOf r ≡ linesOf x ++ (lineOf (take lineLength (drop at (now (part .entry)))) ∷ [])) ⌝ }
+    requires { ⌜ (x .count < 8) × (at ≡ 1 + lineLength * x .count) × (at + lineLength ≤ length (now part)) ⌝ }
+    ensures { λ r. ⌜ (r .count ≡ x .count + 1) × (linesOf (now (part .entry)) r ≡ linesOf (now (part .entry)) x ++ (lineOf (take lineLength (drop at (now (part .entry)))) ∷ [])) ⌝ }
 {
     let k = x.count;
     let mut attributes = x.attributes;
-    let mut initial = x.initial;
     attributes[k] = part[at];
-    copy_eight(&mut initial, 8 * k, part, at + 1);
     let count = k + 1;
-    Lines {
-        count,
-        attributes,
-        initial,
-    }
+    Lines { count, attributes }
 }
 
 // So many lines, after their count.
 fn line_entries(part: &[u8], n: u8) -> LinesRead
     requires { ⌜ (n ≤ 8) × (1 ≤ length (now part)) ⌝ }
-    ensures { λ r. ⌜ ComesTo (many (λ done. readLine) n [] (drop 1 (now (part .entry)))) (now (part .entry)) (r .step) (linesOf (r .lines)) × (r .lines .count ≤ 8) ⌝ }
+    ensures { λ r. ⌜ ComesTo (many (λ done. readLine) n [] (drop 1 (now (part .entry)))) (now (part .entry)) (r .step) (linesOf (now (part .entry)) (r .lines)) × (r .lines .count ≤ 8) ⌝ }
 {
     let mut lines = no_lines();
     let mut at = 1;
@@ -91,7 +83,7 @@ fn line_entries(part: &[u8], n: u8) -> LinesRead
 
 // The lines, from their count on.
 pub fn read_lines(part: &[u8]) -> LinesRead
-    ensures { λ r. ⌜ ComesTo (readLines (now (part .entry))) (now (part .entry)) (r .step) (linesOf (r .lines)) × (r .lines .count ≤ 8) ⌝ }
+    ensures { λ r. ⌜ ComesTo (readLines (now (part .entry))) (now (part .entry)) (r .step) (linesOf (now (part .entry)) (r .lines)) × (r .lines .count ≤ 8) ⌝ }
 {
     if part.len() < 1 {
         return LinesRead {

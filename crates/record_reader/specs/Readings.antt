@@ -11,13 +11,13 @@ use Rattle.record_reader.specs.declared.reader.Reading.{Reading}
 use Rattle.record_decoded.specs.declared.types.Execution.{Execution}
 use Rattle.record_decoded.specs.Decoded.{executionOf}
 
--- the answer of the code as the model's
-abbrev pub answerMeant : Answer → Execution → calls.Answer model.Execution
-answerMeant Accepted x = calls.says (executionOf x)
-answerMeant (Refused q) x = calls.refuses q
+-- the answer of the code as the model's; the initial bytes are the record's
+abbrev pub answerMeant : List ℕ → Answer → Execution → calls.Answer model.Execution
+answerMeant bytes Accepted x = calls.says (executionOf bytes x)
+answerMeant bytes (Refused q) x = calls.refuses q
 
-abbrev pub readingOf : Reading → calls.Answer model.Execution
-readingOf r = answerMeant (r .answer) (r .execution)
+abbrev pub readingOf : List ℕ → Reading → calls.Answer model.Execution
+readingOf bytes r = answerMeant bytes (r .answer) (r .execution)
 
 -- the walk after the programs, and after the lines
 unfoldable pub afterInstructions : ℕ → List model.Line → List model.Instruction → Reader model.Execution

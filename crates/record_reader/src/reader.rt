@@ -1,6 +1,8 @@
 // The reader of a whole record.
 ghost use mathlib.Core.Path.{_≡_};
-ghost use Prim.Native.Nat.{_≤_};
+ghost use mathlib.Core.List.{List};
+ghost use Prim.Native.Nat.{ℕ, _≤_};
+ghost use lib.ListN.{drop};
 ghost use Rattle.model.specs.Calls.{refuses, answerOf, readAll};
 ghost use Rattle.record_decoded.specs.Decoded.{linesOf, instructionsOf};
 ghost use Rattle.record_reader.specs.Readings.{readingOf, afterLines, afterInstructions};
@@ -22,14 +24,15 @@ pub enum Answer {
     Refused(u8),
 }
 
-// The answer, and where it is Accepted the execution.
+// The answer, and where it is Accepted the execution. Its initial bytes stay in the record.
 pub struct Reading {
     pub answer: Answer,
     pub execution: Execution,
 }
 
+// A refusal. (Here and below, what the record holds before the section that is lent is open: each contract holds for every record.)
 fn refused(q: u8) -> Reading
-    ensures { λ r. ⌜ refuses q ≡ readingOf r ⌝ }
+    ensures { λ r. ⌜ ((bytes : List ℕ) → refuses q ≡ readingOf bytes r) ⌝ }
 {
     Reading {
         answer: Answer::Refused(q),
@@ -45,7 +48,7 @@ fn refused(q: u8) -> Reading
 // What follows the programs: the pairs, and the end of the record.
 fn read_end(part: &[u8], processors: usize, lines: Lines, instructions: Instructions) -> Reading
     requires { ⌜ instructions .count ≤ 40 ⌝ }
-    ensures { λ r. ⌜ answerOf (afterInstructions processors (linesOf lines) (instructionsOf instructions) (now (part .entry))) ≡ readingOf r ⌝ }
+    ensures { λ r. ⌜ ((bytes : List ℕ) → answerOf (afterInstructions processors (linesOf (drop 1 bytes) lines) (instructionsOf instructions) (now (part .entry))) ≡ readingOf bytes r) ⌝ }
 {
     let read = read_pairs(part, instructions);
     let step = read.step;
@@ -72,7 +75,7 @@ fn read_end(part: &[u8], processors: usize, lines: Lines, instructions: Instruct
 // What follows the lines.
 fn read_rest(part: &[u8], processors: usize, lines: Lines) -> Reading
     requires { ⌜ (processors ≤ 8) × (lines .count ≤ 8) ⌝ }
-    ensures { λ r. ⌜ answerOf (afterLines processors (linesOf lines) (now (part .entry))) ≡ readingOf r ⌝ }
+    ensures { λ r. ⌜ ((bytes : List ℕ) → answerOf (afterLines processors (linesOf (drop 1 bytes) lines) (now (part .entry))) ≡ readingOf bytes r) ⌝ }
 {
     let count = lines.count;
     let read = read_instructions(part, count, processors);
@@ -86,7 +89,7 @@ fn read_rest(part: &[u8], processors: usize, lines: Lines) -> Reading
 
 // The execution that a record holds, or the first question that it fails.
 pub fn read(bytes: &[u8]) -> Reading
-    ensures { λ r. ⌜ readAll (now (bytes .entry)) ≡ readingOf r ⌝ }
+    ensures { λ r. ⌜ readAll (now (bytes .entry)) ≡ readingOf (now (bytes .entry)) r ⌝ }
 {
     if bytes.len() < 1 {
         return refused(1);

@@ -63,10 +63,10 @@ module _ (e : model.Execution) where
   pub chain-marks-are-paths : Accepted e → MarksArePaths (operations e) (linksOf e (linked e))
   chain-marks-are-paths c = marks-are-paths (operations e) (linksOf e (linked e)) (links-within (linked e) (c .consecutive))
 
-module _ {x : Execution} {t : Operations} {marks : List (List ℕ)} (h : Compiled x t marks) where
-  module _ (consecutive : Consecutive (executionOf x .processors) 0 0 (executionOf x .instructions)) (a b : ℕ) (la : a < t .count) (lb : b < t .count) where
+module _ {bytes : List ℕ} {x : Execution} {t : Operations} {marks : List (List ℕ)} (h : Compiled bytes x t marks) where
+  module _ (consecutive : Consecutive (executionOf bytes x .processors) 0 0 (executionOf bytes x .instructions)) (a b : ℕ) (la : a < t .count) (lb : b < t .count) where
     abbrev e : model.Execution
-    e = executionOf x
+    e = executionOf bytes x
 
     abbrev first : Operation
     first = operationAt (x .instructions) t a

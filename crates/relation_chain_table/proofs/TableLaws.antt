@@ -66,17 +66,17 @@ marks-written n links m w holds =
     (λ a h. map-same (λ b. markOf (marked m a b)) (chainMark n links a) (below n)
     (λ b l. ap markOf (holds a b (of-below n h) (of-below n l)) ∙ sym (mark-is-closed n links w a b)))
 
-module _ (x : Execution) (a : Accepted (executionOf x)) where
+module _ (bytes : List ℕ) (x : Execution) (a : Accepted (executionOf bytes x)) where
   abbrev e : model.Execution
-  e = executionOf x
+  e = executionOf bytes x
 
   module _ {t : Operations}
       (tabled : Tabled (x .instructions) t (for (instructionsOf (x .instructions)) (operationsOf (x .processors))) (operationCount (x .processors) (instructionsOf (x .instructions)))) where
     counts : t .count ≡ operations e
-    counts = count-is x (t .count) (tabled .counts)
+    counts = count-is bytes x (t .count) (tabled .counts)
 
     pub few : t .count ≤ 128
-    few = omega (arith, tabled .counts, few-operations x a)
+    few = omega (arith, tabled .counts, few-operations bytes x a)
 
     pub square-few : t .count * t .count ≤ 16384
     square-few = omega (arith, mul-le-mul-right (t .count) few, mul-le-mul-right 128 few)
@@ -89,9 +89,9 @@ module _ (x : Execution) (a : Accepted (executionOf x)) where
     unfolding tableMarks tableReply
     refuses-22 table h = ap (tableReply table) (asked-no 22 _ (room-is table ∙ lt-leb (t .count * t .count) (length table) h))
 
-    module _ {marks : List (List ℕ)} (c : Compiled x t marks) where
+    module _ {marks : List (List ℕ)} (c : Compiled bytes x t marks) where
       pub owners-few : (o : ℕ) → o < t .count → getD (t .owners) o 0 < 40
-      owners-few o l = omega (arith, owner-there c o l, few-instructions x a)
+      owners-few o l = omega (arith, owner-there c o l, few-instructions bytes x a)
 
       -- the closed square
       module _ (links chains : List (List ℕ)) (filled : MarksAre (t .count) links (linkedAt (x .instructions) t marks)) (closed : MarksAre (t .count) chains (closedBy (t .count) (marked links))) where

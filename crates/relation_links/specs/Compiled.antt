@@ -10,7 +10,7 @@ use Rattle.relation_links.specs.declared.operations.Operations.{Operatio
 use Rattle.relation_links.specs.Operations.{Tabled}
 
 -- the table of operations, and the marks of every two instructions
-pub record Compiled (x : Execution) (t : Operations) (marks : List (List ℕ)) : Type 0 where
-  pub tabled : Tabled (x .instructions) t (allOperations (executionOf x)) (operations (executionOf x))
+pub record Compiled (bytes : List ℕ) (x : Execution) (t : Operations) (marks : List (List ℕ)) : Type 0 where
+  pub tabled : Tabled (x .instructions) t (allOperations (executionOf bytes x)) (operations (executionOf bytes x))
   pub marked : (i j : ℕ) → i < x .instructions .count → j < x .instructions .count
-      → markAt marks i j ≡ marksBetween (executionOf x) (instructionAt (x .instructions) i) (instructionAt (x .instructions) j)
+      → markAt marks i j ≡ marksBetween (executionOf bytes x) (instructionAt (x .instructions) i) (instructionAt (x .instructions) j)

@@ -3,8 +3,8 @@ use Prim.Native.Nat.{ℕ, _+_, _*_, _/_}
 use mathlib.Core.Path.{_≡_, refl, sym, _∙_}
 use native.Mathlib.Omega.{arith}
 use mathlib.Core.Bool.{Bool, true, false, not, cond, _&&_, _||_, false≢true}
-use mathlib.Core.List.{[], _∷_}
-use lib.ListN.{getD}
+use mathlib.Core.List.{List, [], _∷_}
+use lib.ListN.{getD, drop}
 use lib.Dec.{eqb, ltb}
 use Rattle.base.specs.Lists.{member}
 use Rattle.base.specs.Bits.{packed, packedOn}
@@ -51,14 +51,14 @@ unrelated-together false own false overlaps false a b of-a of-b {r} {memory} n h
     put-together false own false overlaps false a b of-a of-b {r = r} {program = 2 * (2 * (2 * (2 * (2 * (2 * memory)))))} {overlap-mark = 2 * (2 * (2 * memory))} {pair = 2 * (2 * memory)} {domain = 2 * memory} {memory = memory}
     (omega arith) (omega arith) (omega arith) (omega arith) (omega arith) k
 
-module _ (x : Execution) (m n : ℕ) where
-  facts : marksBetween (executionOf x) (instructionAt (x .instructions) m) (instructionAt (x .instructions) n)
+module _ (bytes : List ℕ) (x : Execution) (m n : ℕ) where
+  facts : marksBetween (executionOf bytes x) (instructionAt (x .instructions) m) (instructionAt (x .instructions) n)
       ≡ marksBy (eqb m n) (eqb (getD (x .instructions .processors) m 0) (getD (x .instructions .processors) n 0))
       (eqb (getD (x .instructions .processors) m 0) (getD (x .instructions .processors) n 0) && ltb m n)
       (sharesByte (getD (x .instructions .addresses) m 0) (getD (x .instructions .sizes) m 0) (getD (x .instructions .addresses) n 0) (getD (x .instructions .sizes) n 0))
       (givenPair (pairsOf (x .pairs)) m n) (kindOf (getD (x .instructions .kinds) m 0)) (kindOf (getD (x .instructions .kinds) n 0))
-      (getD (linesOf (x .lines)) (getD (x .instructions .addresses) m 0 / 8) noLine .attribute)
-      (getD (linesOf (x .lines)) (getD (x .instructions .addresses) n 0 / 8) noLine .attribute)
+      (getD (linesOf (drop 1 bytes) (x .lines)) (getD (x .instructions .addresses) m 0 / 8) noLine .attribute)
+      (getD (linesOf (drop 1 bytes) (x .lines)) (getD (x .instructions .addresses) n 0 / 8) noLine .attribute)
   unfolding marksBetween marksOf marksBy earlierOf conflict attributeAt lineAt executionOf instructionAt
   facts = rw (overlap-shares (instructionAt (x .instructions) m) (instructionAt (x .instructions) n)) refl
 
@@ -68,9 +68,9 @@ module _ (x : Execution) (m n : ℕ) where
       → a ≡ kindOf (getD (x .instructions .kinds) m 0) → b ≡ kindOf (getD (x .instructions .kinds) n 0)
       → overlaps
       ≡ sharesByte (getD (x .instructions .addresses) m 0) (getD (x .instructions .sizes) m 0) (getD (x .instructions .addresses) n 0) (getD (x .instructions .sizes) n 0)
-      → of-a ≡ getD (linesOf (x .lines)) (getD (x .instructions .addresses) m 0 / 8) noLine .attribute
-      → of-b ≡ getD (linesOf (x .lines)) (getD (x .instructions .addresses) n 0 / 8) noLine .attribute
+      → of-a ≡ getD (linesOf (drop 1 bytes) (x .lines)) (getD (x .instructions .addresses) m 0 / 8) noLine .attribute
+      → of-b ≡ getD (linesOf (drop 1 bytes) (x .lines)) (getD (x .instructions .addresses) n 0 / 8) noLine .attribute
       → given ≡ givenPair (pairsOf (x .pairs)) m n
       → r ≡ marksBy same own earlier overlaps given a b of-a of-b
-      → r ≡ marksBetween (executionOf x) (instructionAt (x .instructions) m) (instructionAt (x .instructions) n)
+      → r ≡ marksBetween (executionOf bytes x) (instructionAt (x .instructions) m) (instructionAt (x .instructions) n)
   between-made e1 e2 e3 e4 e5 e6 e7 e8 e9 h = h ∙ cc (e1, e2, e3, e4, e5, e6, e7, e8, e9) ∙ sym facts

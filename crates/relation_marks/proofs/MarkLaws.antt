@@ -74,12 +74,12 @@ unfolding givenPair pairsOf pairAt
 pair-by-index ps m n = sym (any-numbered (λ p. eqb (p .0) m && eqb (p .1) n) (pairAt ps) (ps .count))
 
 -- the attribute of a line that is there, and of one that is not
-pub attribute-there : (ls : Lines) (k : ℕ) → k < ls .count → attributeOf (getD (ls .attributes) k 0) ≡ getD (linesOf ls) k noLine .attribute
+pub attribute-there : (part : List ℕ) (ls : Lines) (k : ℕ) → k < ls .count → attributeOf (getD (ls .attributes) k 0) ≡ getD (linesOf part ls) k noLine .attribute
 unfolding decodedLine linesOf
-attribute-there ls k h = sym (ap (λ (l : Line). l .attribute) (getD-below (decodedLine ls) noLine (ls .count) k h))
+attribute-there part ls k h = sym (ap (λ (l : Line). l .attribute) (getD-below (decodedLine part ls) noLine (ls .count) k h))
 
-pub attribute-past : (ls : Lines) (k : ℕ) → ls .count ≤ k → WC ≡ getD (linesOf ls) k noLine .attribute
-attribute-past ls k h = sym (ap (λ (l : Line). l .attribute) (List·getD-eq-default (linesOf ls) noLine {n = k} (omega (arith, lines-length ls))))
+pub attribute-past : (part : List ℕ) (ls : Lines) (k : ℕ) → ls .count ≤ k → WC ≡ getD (linesOf part ls) k noLine .attribute
+attribute-past part ls k h = sym (ap (λ (l : Line). l .attribute) (List·getD-eq-default (linesOf part ls) noLine {n = k} (omega (arith, lines-length part ls))))
 
 -- the marks of rules 2, 3 and 4, read back
 module _ (j k : Kind) where

@@ -1,7 +1,7 @@
 // What two instructions are to each other: all marks of a pair of instructions, and those of every pair.
 ghost use mathlib.Core.Path.{_≡_};
 ghost use mathlib.Core.Bool.{cond, not, _&&_, _||_};
-ghost use mathlib.Core.List.{[], _∷_};
+ghost use mathlib.Core.List.{List, [], _∷_};
 ghost use Prim.Native.Nat.{ℕ, _+_, _*_, _<_, _≤_};
 ghost use lib.ListN.{getD};
 ghost use Rattle.base.specs.Lists.{member};
@@ -117,7 +117,7 @@ fn marks_by(
 // The marks of an instruction with each instruction.
 fn marks_row(x: Execution, i: InstructionNo) -> [u16; MOST_INSTRUCTIONS]
     requires { ⌜ (i .0 < 40) × (x .instructions .count ≤ 40) × (x .lines .count ≤ 8) × (x .pairs .count ≤ 40) ⌝ }
-    ensures { λ r. ⌜ ((k : ℕ) → k < x .instructions .count → getD r k 0 ≡ marksBetween (executionOf x) (instructionAt (x .instructions) (i .0)) (instructionAt (x .instructions) k)) ⌝ }
+    ensures { λ r. ⌜ ((bytes : List ℕ) (k : ℕ) → k < x .instructions .count → getD r k 0 ≡ marksBetween (executionOf bytes x) (instructionAt (x .instructions) (i .0)) (instructionAt (x .instructions) k)) ⌝ }
 {
     let is = x.instructions;
     let n = is.count;
@@ -148,7 +148,7 @@ fn marks_row(x: Execution, i: InstructionNo) -> [u16; MOST_INSTRUCTIONS]
 // The marks of every two instructions.
 pub fn all_marks(x: Execution) -> [[u16; MOST_INSTRUCTIONS]; MOST_INSTRUCTIONS]
     requires { ⌜ (x .instructions .count ≤ 40) × (x .lines .count ≤ 8) × (x .pairs .count ≤ 40) ⌝ }
-    ensures { λ r. ⌜ ((m k : ℕ) → m < x .instructions .count → k < x .instructions .count → markAt r m k ≡ marksBetween (executionOf x) (instructionAt (x .instructions) m) (instructionAt (x .instructions) k)) ⌝ }
+    ensures { λ r. ⌜ ((bytes : List ℕ) (m k : ℕ) → m < x .instructions .count → k < x .instructions .count → markAt r m k ≡ marksBetween (executionOf bytes x) (instructionAt (x .instructions) m) (instructionAt (x .instructions) k)) ⌝ }
 {
     let is = x.instructions;
     let n = is.count;

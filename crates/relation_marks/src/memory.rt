@@ -1,6 +1,7 @@
 // The attribute of the memory that an access goes to, and whether two instructions are a dependence pair.
 ghost use mathlib.Core.Path.{_≡_};
-ghost use Prim.Native.Nat.{_/_, _≤_};
+ghost use mathlib.Core.List.{List};
+ghost use Prim.Native.Nat.{ℕ, _/_, _≤_};
 ghost use lib.ListN.{getD};
 ghost use Rattle.model.specs.Execution.{noLine, isWB, isUC, isUCof, sameDomain};
 ghost use Rattle.record_decoded.specs.Kinds.{attributeMeant};
@@ -17,7 +18,7 @@ use record_decoded::types::wide;
 // The attribute of the line of an address; that of no line is WC.
 pub fn attribute_in(lines: Lines, address: u8) -> Attribute
     requires { ⌜ lines .count ≤ 8 ⌝ }
-    ensures { λ r. ⌜ attributeMeant r ≡ getD (linesOf lines) (address / 8) noLine .attribute ⌝ }
+    ensures { λ r. ⌜ ((part : List ℕ) → attributeMeant r ≡ getD (linesOf part lines) (address / 8) noLine .attribute) ⌝ }
 {
     let line = wide(address) / 8;
     let attributes = lines.attributes;

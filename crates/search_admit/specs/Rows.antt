@@ -1,9 +1,9 @@
--- What is compiled of an execution: seventeen words a row for each operation, then the words of memory that the search starts from.
+-- What is compiled of an execution: a row of seventeen words for each operation. The words of memory, and what a row has of them, are relative to the initial bytes.
 use Prim.Native.Nat.{ℕ, _+_, _*_, _-_, _/_, _%_, _<_}
 use mathlib.Core.Path.{_≡_}
 use mathlib.Core.Bool.{Bool, true, cond, _&&_, _||_}
 use mathlib.Core.List.{List, [], _∷_}
-use lib.ListN.{length, getD, set, take, drop}
+use lib.ListN.{length, getD, set, replicate}
 use lib.Bits.{bitAnd, bitOr, bitXor}
 use lib.Dec.{eqb, leb, ltb}
 use Rattle.base.specs.Lists.{any, member}
@@ -12,22 +12,19 @@ use Rattle.base.specs.Bits.{bit}
 use Rattle.model.specs.Execution.{Kind, isStore, isRelease, kindOf, LV, RV, stores, operations, numberFrom, numberOf}
 use Rattle.model.specs.Rules.{linked, inWB, RV-own, remoteOf, accesses}
 use Rattle.record_decoded.specs.declared.types.Execution.{Execution}
-use Rattle.record_decoded.specs.Decoded.{instructionAt, executionOf}
+use Rattle.record_decoded.specs.Decoded.{initialOf, instructionAt, executionOf}
 use Rattle.relation_marks.specs.Marks.{hasMark, conflictMark, bypassMark, markAt}
 use Rattle.relation_links.specs.declared.operations.Operations.{Operations}
 use Rattle.relation_links.specs.Operations.{operationAt}
 use Rattle.relation_links.specs.Compiled.{Compiled}
 use Rattle.search_sets.specs.Set.{holds}
 
--- the words of a row, of all 128 rows, and of these with the words of memory behind them
+-- the words of a row, and of all 128 rows
 abbrev pub rowLength : ℕ
 rowLength = 17
 
-abbrev pub rowsLength : ℕ
-rowsLength = 128 * rowLength
-
 abbrev pub tableLength : ℕ
-tableLength = rowsLength + 128
+tableLength = 128 * rowLength
 
 -- word f of the row of operation x
 abbrev pub field : List ℕ → ℕ → ℕ → ℕ
@@ -100,28 +97,35 @@ unfoldable pub wordsFrom : List ℕ → List ℕ → List ℕ → List ℕ
 wordsFrom rows words [] = words
 wordsFrom rows words (x ∷ xs) = wordsFrom rows (wordsWith rows words x) xs
 
--- the words before any operation stand behind the rows
-abbrev pub firstWords : List ℕ → List ℕ
-firstWords rows = take 128 (drop rowsLength rows)
+-- the words before any operation: every byte is its initial byte, so relative to it 0
+abbrev pub firstWords : List ℕ
+firstWords = replicate 128 0
 
 -- the words after the operations of a prefix
 abbrev pub wordsAfter : List ℕ → List ℕ → List ℕ
-wordsAfter rows xs = wordsFrom rows (firstWords rows) xs
+wordsAfter rows xs = wordsFrom rows firstWords xs
 
 -- What the rows hold of an execution
 
 -- an st.rel to WB of which o is an RV, and so is a
-unfoldable pub partner : Execution → ℕ → ℕ → Bool
-partner x o a =
-    any (λ w. isRelease (w .kind) && inWB (executionOf x) w && (member (remoteOf (executionOf x) w) o && member (remoteOf (executionOf x) w) a)) (stores (executionOf x))
+unfoldable pub partner : List ℕ → Execution → ℕ → ℕ → Bool
+partner bytes x o a =
+    any (λ w. isRelease (w .kind) && inWB (executionOf bytes x) w && (member (remoteOf (executionOf bytes x) w) o && member (remoteOf (executionOf bytes x) w) a)) (stores (executionOf bytes x))
 
 -- bit i of the line of instruction w is one of its bytes'
 unfoldable pub covers : Execution → ℕ → ℕ → Bool
 covers x w i = accesses (instructionAt (x .instructions) w) (8 * (getD (x .instructions .addresses) w 0 / 8) + i / 8)
 
--- bit i of what instruction w saw or wrote, in its line
-unfoldable pub dataBit : Execution → ℕ → ℕ → Bool
-dataBit x w i = covers x w i && bit (getD (x .instructions .bytes) (8 * w + (i / 8 - getD (x .instructions .addresses) w 0 % 8)) 0) (i % 8)
+-- a byte relative to the initial byte of its address: both, bit by bit, exclusive or
+abbrev pub relative : ℕ → ℕ → ℕ
+relative byte initial = bitXor byte initial
+
+-- bit i of what instruction w saw or wrote, in its line, relative to the initial bytes of the record
+unfoldable pub dataBit : List ℕ → Execution → ℕ → ℕ → Bool
+dataBit bytes x w i =
+    covers x w i
+    && bit (relative (getD (x .instructions .bytes) (8 * w + (i / 8 - getD (x .instructions .addresses) w 0 % 8)) 0)
+    (initialOf bytes (x .lines .count) (8 * (getD (x .instructions .addresses) w 0 / 8) + i / 8))) (i % 8)
 
 -- Words of memory: what is visible to processor p, line by line, and from 64 on what its own stores wrote.
 abbrev pub visibleAt : ℕ → ℕ → ℕ
@@ -169,18 +173,18 @@ module _ (x : Execution) (t : Operations) (marks : List (List ℕ)) (o : ℕ) wh
   abbrev pub bypassOf : ℕ → ℕ → Bool
   bypassOf v a = eqb role 0 && (storesToLine v && eqb a (RV-own (instructionAt (x .instructions) v)))
 
-  pub record RowOf (row : ℕ → ℕ) : Type 0 where
+  pub record RowOf (bytes : List ℕ) (row : ℕ → ℕ) : Type 0 where
     pub preds-are : (a : ℕ) → a < 128
         → holds (row 0) (row 1) a
-        ≡ (ltb a (operations (executionOf x)) && linked (executionOf x) (operationAt (x .instructions) t a) (operationAt (x .instructions) t o))
-    pub partners-are : (a : ℕ) → a < 128 → holds (row 2) (row 3) a ≡ partner x o a
+        ≡ (ltb a (operations (executionOf bytes x)) && linked (executionOf bytes x) (operationAt (x .instructions) t a) (operationAt (x .instructions) t o))
+    pub partners-are : (a : ℕ) → a < 128 → holds (row 2) (row 3) a ≡ partner bytes x o a
     pub awaited-are : (a : ℕ) → a < 128 → holds (row 4) (row 5) a ≡ anyBelow (x .instructions .count) (λ v. awaitedOf v a)
     pub bypasses-are : (a : ℕ) → a < 128 → holds (row 6) (row 7) a ≡ anyBelow (x .instructions .count) (λ v. bypassOf v a)
     pub writes-bits : (i : ℕ) → i < 64 → bit (row 8) i ≡ (writes role && covers x owner i)
-    pub writes-data : (i : ℕ) → i < 64 → bit (row 9) i ≡ (writes role && dataBit x owner i)
+    pub writes-data : (i : ℕ) → i < 64 → bit (row 9) i ≡ (writes role && dataBit bytes x owner i)
     pub writes-word : writes role ≡ true → row 10 ≡ cond (eqb role 1) (ownAt processor line) (visibleAt (role - 3) line)
     pub reads-bits : (i : ℕ) → i < 64 → bit (row 11) i ≡ (eqb role 0 && covers x owner i)
-    pub reads-data : (i : ℕ) → i < 64 → bit (row 12) i ≡ (eqb role 0 && dataBit x owner i)
+    pub reads-data : (i : ℕ) → i < 64 → bit (row 12) i ≡ (eqb role 0 && dataBit bytes x owner i)
     pub reads-visible : role ≡ 0 → row 13 ≡ visibleAt processor line
     pub reads-own : role ≡ 0 → row 14 ≡ ownAt processor line
     pub own-is : row 15 ≡ cond (writes role) (RV-own (instructionAt (x .instructions) owner)) o
@@ -190,16 +194,10 @@ module _ (x : Execution) (t : Operations) (marks : List (List ℕ)) (o : ℕ) wh
 abbrev pub Bytes : List ℕ → Type 0
 Bytes l = (j : ℕ) → getD l j 0 < 256
 
--- in each word before any operation are the initial bytes of its line
-abbrev pub Initial : Execution → List ℕ → Type 0
-Initial x words =
-    (c i : ℕ) → c < 128 → i < 64 → bit (getD words c 0) i ≡ bit (getD (x .lines .initial) (8 * (c % 8) + i / 8) 0) (i % 8)
-
--- the rows and the first words hold what they should of the execution
-pub record RowsMean (x : Execution) (t : Operations) (marks : List (List ℕ)) (rows : List ℕ) : Type 0 where
-  pub compiled : Compiled x t marks
-  pub rowed : (o : ℕ) → o < operations (executionOf x) → RowOf x t marks o (λ f. field rows f o)
+-- the rows hold what they should of the execution
+pub record RowsMean (bytes : List ℕ) (x : Execution) (t : Operations) (marks : List (List ℕ)) (rows : List ℕ) : Type 0 where
+  pub compiled : Compiled bytes x t marks
+  pub rowed : (o : ℕ) → o < operations (executionOf bytes x) → RowOf x t marks o bytes (λ f. field rows f o)
   pub whole : length rows ≡ tableLength
-  pub starts : Initial x (firstWords rows)
   pub data-bytes : Bytes (x .instructions .bytes)
-  pub initial-bytes : Bytes (x .lines .initial)
+  pub initial-bytes : Bytes bytes

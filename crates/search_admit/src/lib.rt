@@ -46,14 +46,12 @@ pub const OWN: usize = 15;
 
 pub const LOCAL: usize = 16;
 
-// The words of a row, those of all rows, the words of memory, and both together: the rows, then the words of memory before any operation.
+// The words of a row, those of all rows, and the words of memory.
 pub const ROW: usize = 17;
 
-pub const ROWS: usize = ROW * Position::LIMIT;
+pub const TABLE: usize = ROW * Position::LIMIT;
 
 pub const WORDS: usize = 128;
-
-pub const TABLE: usize = ROWS + WORDS;
 
 // Word f of the row of operation x.
 pub fn field_of(rows: &[u64; TABLE], x: OperationNo, f: usize) -> u64

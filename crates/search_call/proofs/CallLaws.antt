@@ -107,11 +107,11 @@ outcome-reply e buffer after saved allowance n is given at o comes there written
     ∙ ap (λ (u : Outcome). searchReply saved buffer (says u)) (comes ∙ ap₂ (λ (k : ℕ) (g : List ℕ). searchFrom k (keeps (rules e)) g allowance) is at)
 
 -- the rows of an accepted execution test what is consistent
-pub tested-keeps : {x : decoded.Execution} {t : Operations} {marks : List (List ℕ)} {table : List ℕ} → RowsMean x t marks table → Accepted (executionOf x) → (n : ℕ) → n ≡ operations (executionOf x)
-    → Tested (keeps (rules (executionOf x))) n table
+pub tested-keeps : {bytes : List ℕ} {x : decoded.Execution} {t : Operations} {marks : List (List ℕ)} {table : List ℕ} → RowsMean bytes x t marks table → Accepted (executionOf bytes x) → (n : ℕ) → n ≡ operations (executionOf bytes x)
+    → Tested (keeps (rules (executionOf bytes x))) n table
 unfolding consistent
-tested-keeps {x} {t} {marks} {table} h a n is =
-    subst (λ (k : ℕ). Tested (keeps (rules (executionOf x))) k table) (sym is) (tested {t = record { execution = x; operations = t; marks = marks; rows = table }} h a)
+tested-keeps {bytes} {x} {t} {marks} {table} h a n is =
+    subst (λ (k : ℕ). Tested (keeps (rules (executionOf bytes x))) k table) (sym is) (tested {t = record { bytes = bytes; execution = x; operations = t; marks = marks; rows = table }} h a)
 
 -- the empty position is consistent
 pub empty-keeps : (e : Execution) → keeps (rules e) [] ≡ true

@@ -65,6 +65,7 @@ fn answer_of(verdict: Verdict) -> SearchAnswer
 
 // The search from a saved position of different operations: question 21, then the steps.
 fn search_on(
+    bytes: &[u8],
     x: Execution,
     t: Operations,
     marks: &[[u16; MOST_INSTRUCTIONS]; MOST_INSTRUCTIONS],
@@ -72,12 +73,12 @@ fn search_on(
     saved: usize,
     allowance: u32,
 ) -> SearchReply
-    requires { ⌜ Accepted (executionOf x) × Compiled x t (now marks) ⌝ }
+    requires { ⌜ Accepted (executionOf (now bytes) x) × Compiled (now bytes) x t (now marks) ⌝ }
     requires { ⌜ (saved ≤ t .count) × (t .count ≤ length (now buffer)) × (distinct (t .count) [] (take saved (now buffer)) ≡ true) ⌝ }
-    ensures { λ r. ⌜ replyOf r (now (buffer .exit)) ≡ searchReply saved (now (buffer .entry)) (searchPosition (executionOf x) (take saved (now (buffer .entry))) allowance) ⌝ }
+    ensures { λ r. ⌜ replyOf r (now (buffer .exit)) ≡ searchReply saved (now (buffer .entry)) (searchPosition (executionOf (now (bytes .entry)) x) (take saved (now (buffer .entry))) allowance) ⌝ }
 {
     let n = t.count;
-    let rows = rows_of(x, t, marks);
+    let rows = rows_of(bytes, x, t, marks);
     let given = saved_position(buffer, saved);
     let affected = affected_by(n, &rows);
     let outcome = search_from(n, given, allowance, &rows, &affected);
@@ -98,9 +99,15 @@ fn search_on(
 }
 
 // The search of an accepted execution: questions 18 to 21, then the steps.
-fn search_execution(x: Execution, buffer: &mut [u8], saved: usize, allowance: u32) -> SearchReply
-    requires { ⌜ Accepted (executionOf x) ⌝ }
-    ensures { λ r. ⌜ replyOf r (now (buffer .exit)) ≡ searchReply saved (now (buffer .entry)) (searchSaved (executionOf x) (now (buffer .entry)) saved allowance) ⌝ }
+fn search_execution(
+    bytes: &[u8],
+    x: Execution,
+    buffer: &mut [u8],
+    saved: usize,
+    allowance: u32,
+) -> SearchReply
+    requires { ⌜ Accepted (executionOf (now bytes) x) ⌝ }
+    ensures { λ r. ⌜ replyOf r (now (buffer .exit)) ≡ searchReply saved (now (buffer .entry)) (searchSaved (executionOf (now (bytes .entry)) x) (now (buffer .entry)) saved allowance) ⌝ }
 {
     let t = operations_of(x.instructions, x.processors);
     let n = t.count;
@@ -115,7 +122,7 @@ fn search_execution(x: Execution, buffer: &mut [u8], saved: usize, allowance: u3
         return refused(20, saved);
     }
     let marks = all_marks(x);
-    search_on(x, t, &marks, buffer, saved, allowance)
+    search_on(bytes, x, t, &marks, buffer, saved, allowance)
 }
 
 // Searches on from the position of the first `saved` entries of the buffer, with at most `allowance` steps.
@@ -125,7 +132,7 @@ pub fn search(bytes: &[u8], buffer: &mut [u8], saved: usize, allowance: u32) -> 
     let reading = read(bytes);
     let answer = reading.answer;
     match answer {
-        Answer::Accepted => search_execution(reading.execution, buffer, saved, allowance),
+        Answer::Accepted => search_execution(bytes, reading.execution, buffer, saved, allowance),
         Answer::Refused(q) => refused(q, saved),
     }
 }

@@ -14,6 +14,6 @@ consistent-closed e xs x h = keeps-shorter xs x (rules e) h
 
 pub next-prefix : NextPrefix
 next-prefix bytes x t marks rows xs r position places levels words replaced from =
-    from .walked .means (consistent (executionOf x))
-    (tested {t = record { execution = x; operations = t; marks = marks; rows = rows }} (from .rows-mean) (read-accepted bytes (executionOf x) (from .accepted)))
-    (consistent-closed (executionOf x)) (from .consists)
+    from .walked .means (consistent (executionOf bytes x))
+    (tested {t = record { bytes = bytes; execution = x; operations = t; marks = marks; rows = rows }} (from .rows-mean) (read-accepted bytes (executionOf bytes x) (from .accepted)))
+    (consistent-closed (executionOf bytes x)) (from .consists)

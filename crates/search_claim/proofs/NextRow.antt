@@ -22,14 +22,14 @@ use Rattle.model.specs.Rules.{before, addresses, accesses, overlap, link1, link
 use Rattle.model.specs.Calls.{says, answerOf, readAll}
 use Rattle.model.specs.Notation.{zeros, recordOf}
 use Rattle.model.specs.PaperTable.{k2}
-use Rattle.record_decoded.specs.Decoded.{eight, decodedLine, linesOf, instructionAt, instructionsOf, pairsOf, executionOf}
+use Rattle.record_decoded.specs.Decoded.{eight, decodedLine, linesOf, initialOf, instructionAt, instructionsOf, pairsOf, executionOf}
 use Rattle.relation_links.specs.Operations.{operationAt, tableOf}
 use Rattle.relation_links.specs.Compiled.{Compiled}
 use Rattle.relation_marks.specs.Marks.{earlierOf, givenPair, marksOf, marksBetween}
 use Rattle.relation_places.specs.Places.{placeFrom, placed, Placed}
 use Rattle.relation_places.proofs.PlaceLaws.{place-absent, placed-past}
 use Rattle.search_sets.specs.Set.{holds}
-use Rattle.search_admit.specs.Rows.{field, wordsFrom, firstWords, partner, covers, dataBit, awaitedBy, RowOf, Bytes, Initial, RowsMean}
+use Rattle.search_admit.specs.Rows.{field, wordsFrom, partner, covers, dataBit, awaitedBy, RowOf, Bytes, RowsMean}
 use Rattle.search_admit.specs.Fits.{lastEntry, dueOf, bothOrNeither, refused, pending, localBit, readsRecorded, enabled, fitsBy, Tested}
 use Rattle.search_walk.specs.Walks.{Levels, Closed, IsNext, IsLast, Kept}
 use Rattle.search_walk.proofs.Gaps.{closed-front, gap-starts, gap-more, gap-up, gap-last, gap-next}
@@ -76,18 +76,18 @@ places-are n xs places few different t = record { few = few; different = differe
 -- The record and its rows
 
 -- the record is accepted, and the arrays hold its execution
-accepts : readAll k2 ≡ says (executionOf k2Arrays)
+accepts : readAll k2 ≡ says (executionOf k2 k2Arrays)
 unfolding all for count below member attributes roles operationCount next item byte ask question2 question3 question4 question5 question6 question7 question8 question9 question11 question12 question15 many lineOf readLine readLines instructionOf readInstruction readProgram readPrograms readInstructions readPairs readRecord answerOf readAll zeros recordOf k2 eight decodedLine linesOf instructionAt instructionsOf pairsOf executionOf k2Arrays
 accepts = refl
 
 -- the table of operations, and the marks
-compiles : Compiled k2Arrays k2Operations k2Marks
+compiles : Compiled k2 k2Arrays k2Operations k2Marks
 unfolding any for count below member allBelow packed packedOn roles remotesAt placeAmong operationCount operations operationsOf allOperations lineAt attributeAt addresses accesses overlap conflict executionOf linesOf decodedLine instructionsOf instructionAt pairsOf operationAt tableOf ruleMarks marks earlierOf givenPair marksOf marksBetween k2Arrays k2Operations k2Marks
 compiles = record { tabled = record { holds = refl; counts = refl }; marked = equal-two _ _ 2 2 refl }
 
 -- the row of each operation
-row-of : (o : ℕ) → o < 3 → RowOf k2Arrays k2Operations k2Marks o (λ f. field k2Rows f o)
-unfolding any allBelow anyBelow operationCount operations roles remotesAt placeAmong stores keep count below attributeAt lineAt addresses accesses overlap link1 link2 link3 link4 link5 link6 link7 paired link8 link13 linked executionOf linesOf decodedLine instructionsOf instructionAt pairsOf operationAt holds partner covers dataBit awaitedBy k2Arrays k2Operations k2Marks k2Rows
+row-of : (o : ℕ) → o < 3 → RowOf k2Arrays k2Operations k2Marks o k2 (λ f. field k2Rows f o)
+unfolding any allBelow anyBelow operationCount operations roles remotesAt placeAmong stores keep count below attributeAt lineAt addresses accesses overlap link1 link2 link3 link4 link5 link6 link7 paired link8 link13 linked executionOf linesOf decodedLine instructionsOf instructionAt pairsOf operationAt holds partner covers dataBit awaitedBy k2Arrays k2Operations k2Marks k2Rows for initialOf zeros recordOf k2
 row-of zero h = record {
   preds-are = same _ _ 128 refl;
   partners-are = same _ _ 128 refl;
@@ -135,31 +135,19 @@ row-of (suc (suc zero)) h = record {
 }
 row-of (suc (suc (suc o))) h = absurd (omega arith)
 
--- the words of memory before any operation
-starts-are : Initial k2Arrays (firstWords k2Rows)
-unfolding allBelow k2Arrays k2Rows
-starts-are c i h = same-to word initial 127 64 refl c i (omega arith)
-  where
-    word : ℕ → ℕ → Bool
-    word c i = bit (getD (firstWords k2Rows) c 0) i
-
-    initial : ℕ → ℕ → Bool
-    initial c i = bit (getD (k2Arrays .lines .initial) (8 * (c % 8) + i / 8) 0) (i % 8)
-
-rows-are : RowsMean k2Arrays k2Operations k2Marks k2Rows
-unfolding all roles operationCount operations count below executionOf instructionsOf instructionAt k2Arrays k2Rows
+rows-are : RowsMean k2 k2Arrays k2Operations k2Marks k2Rows
+unfolding all roles operationCount operations count below executionOf instructionsOf instructionAt k2Arrays k2Rows for zeros recordOf k2
 rows-are = record {
   compiled = compiles;
   rowed = row-of;
   whole = refl;
-  starts = starts-are;
   data-bytes = bytes-are (k2Arrays .instructions .bytes) refl;
-  initial-bytes = bytes-are (k2Arrays .lines .initial) refl;
+  initial-bytes = bytes-are k2 refl;
 }
 
 -- both prefixes are consistent
-both-consist : (consistent (executionOf k2Arrays) (0 ∷ []) ≡ true) × (consistent (executionOf k2Arrays) (0 ∷ 1 ∷ []) ≡ true)
-unfolding any keep when for count below member roles remotesAt placeAmong operationCount operations operationsOf allOperations loads stores lineAt attributeAt before addresses accesses overlap link1 link2 link3 link4 link5 link6 link7 paired link8 link13 linksOf conflict forConflicts rule9 rule10 sightOf rule11 rule12 rule14 rules byteOf latest local byteRead broken keeps consistent eight decodedLine linesOf instructionAt instructionsOf pairsOf executionOf k2Arrays
+both-consist : (consistent (executionOf k2 k2Arrays) (0 ∷ []) ≡ true) × (consistent (executionOf k2 k2Arrays) (0 ∷ 1 ∷ []) ≡ true)
+unfolding any keep when for count below member roles remotesAt placeAmong operationCount operations operationsOf allOperations loads stores lineAt attributeAt before addresses accesses overlap link1 link2 link3 link4 link5 link6 link7 paired link8 link13 linksOf conflict forConflicts rule9 rule10 sightOf rule11 rule12 rule14 rules byteOf latest local byteRead broken keeps consistent eight decodedLine linesOf instructionAt instructionsOf pairsOf executionOf k2Arrays zeros recordOf k2
 both-consist = (refl, refl)
 
 -- What is kept of 0 1
@@ -248,11 +236,11 @@ end-row = record {
 -- What the claim then says of K2
 
 -- after 0 comes 0 1
-pub next-said : IsNext (consistent (executionOf k2Arrays)) 3 (0 ∷ []) (0 ∷ 1 ∷ [])
+pub next-said : IsNext (consistent (executionOf k2 k2Arrays)) 3 (0 ∷ []) (0 ∷ 1 ∷ [])
 unfolding roles operationCount operations count below executionOf instructionsOf instructionAt k2Arrays
 next-said = next-prefix _ _ _ _ _ _ _ _ _ _ _ _ next-row
 
 -- nothing comes after 0 1
-pub end-said : IsLast (consistent (executionOf k2Arrays)) 3 (0 ∷ 1 ∷ [])
+pub end-said : IsLast (consistent (executionOf k2 k2Arrays)) 3 (0 ∷ 1 ∷ [])
 unfolding roles operationCount operations count below executionOf instructionsOf instructionAt k2Arrays
 end-said = next-prefix _ _ _ _ _ _ _ _ _ _ _ _ end-row

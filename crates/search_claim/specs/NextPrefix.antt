@@ -17,10 +17,10 @@ use Rattle.search_walk.specs.Walks.{Means, Walked}
 -- behind it are what the walk leaves.
 pub record WalkedFrom (bytes : List ℕ) (x : Execution) (t : Operations) (marks : List (List ℕ)) (rows xs : List ℕ) (r : WalkAnswer)
     (position places levels words replaced : List ℕ) : Type 0 where
-  pub accepted : readAll bytes ≡ says (executionOf x)
-  pub rows-mean : RowsMean x t marks rows
-  pub consists : consistent (executionOf x) xs ≡ true
-  pub walked : Walked (operations (executionOf x)) rows xs r position places levels words replaced
+  pub accepted : readAll bytes ≡ says (executionOf bytes x)
+  pub rows-mean : RowsMean bytes x t marks rows
+  pub consists : consistent (executionOf bytes x) xs ≡ true
+  pub walked : Walked (operations (executionOf bytes x)) rows xs r position places levels words replaced
 
 -- Wherever that is so, the answer gives the next consistent prefix of that execution in lexicographic order, or says that none comes after xs.
 abbrev pub NextPrefix : Type 0
@@ -28,4 +28,4 @@ NextPrefix =
     (bytes : List ℕ) (x : Execution) (t : Operations) (marks : List (List ℕ)) (rows xs : List ℕ) (r : WalkAnswer)
     → (position places levels words replaced : List ℕ)
     → WalkedFrom bytes x t marks rows xs r position places levels words replaced
-    → Means (consistent (executionOf x)) (operations (executionOf x)) xs r position
+    → Means (consistent (executionOf bytes x)) (operations (executionOf bytes x)) xs r position

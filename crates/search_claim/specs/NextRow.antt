@@ -17,7 +17,7 @@ use Rattle.search_claim.specs.NextPrefix.{WalkedFrom}
 unfoldable pub k2Arrays : Execution
 k2Arrays = record {
   processors = 1;
-  lines = record { count = 1; attributes = replicate 8 0; initial = replicate 64 0 };
+  lines = record { count = 1; attributes = replicate 8 0 };
   instructions = record {
     count = 2;
     operations = 3;
@@ -39,8 +39,8 @@ k2Operations = record { count = 3; owners = 0 ∷ 0 ∷ 1 ∷ replicate 125 0; r
 unfoldable pub k2Marks : List (List ℕ)
 k2Marks = (1 ∷ 16 ∷ []) ∷ (0 ∷ 1 ∷ []) ∷ []
 
--- A row of seventeen words for each operation (`search_admit/specs/Rows.antt`), then zeros: no more rows, and words of memory that start as zero. Words 0 and 1
--- of a row: 0 must stand before 1 and before 2. Words 6 and 7: the R may read the byte of the store whose own RV is 1 before that stands. Words 8 to 10: the LV
+-- A row of seventeen words for each operation (`search_admit/specs/Rows.antt`), then zeros: no more rows. K2's initial bytes are zero, and relative to them a
+-- byte is itself. Words 0 and 1 of a row: 0 must stand before 1 and before 2. Words 6 and 7: the R may read the byte of the store whose own RV is 1 before that stands. Words 8 to 10: the LV
 -- writes the byte 1 to word 64 of memory, the RV to word 0. Words 11 to 14: the R reads a byte, of which it saw 0, from word 0 or 64. Words 15 and 16: of the
 -- LV and the RV both the own RV and the LV, of the R itself.
 unfoldable pub k2Rows : List ℕ

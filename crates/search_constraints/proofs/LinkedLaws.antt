@@ -20,8 +20,8 @@ guarded : (t : Bool) {x y : Bool} → (t ≡ true → x ≡ y) → (t && x) ≡ 
 guarded true f = f refl
 guarded false f = refl
 
-module _ {x : Execution} {t : Operations} {marks : List (List ℕ)} (h : Compiled x t marks) (accepted : Accepted (executionOf x)) where
+module _ {bytes : List ℕ} {x : Execution} {t : Operations} {marks : List (List ℕ)} (h : Compiled bytes x t marks) (accepted : Accepted (executionOf bytes x)) where
   pub preds-mean : (o a : ℕ) → o < t .count
       → (ltb a (t .count) && linkedAt (x .instructions) t marks a o)
-      ≡ (ltb a (t .count) && linked (executionOf x) (operationAt (x .instructions) t a) (operationAt (x .instructions) t o))
+      ≡ (ltb a (t .count) && linked (executionOf bytes x) (operationAt (x .instructions) t a) (operationAt (x .instructions) t o))
   preds-mean o a lo = guarded (ltb a (t .count)) (λ y. linked-means h (accepted .consecutive) a o (ltb-true a (t .count) y) lo)

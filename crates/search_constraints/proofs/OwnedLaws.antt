@@ -28,7 +28,7 @@ use Rattle.relation_links.proofs.LinkLaws.{operation-role, operation-number}
 use Rattle.relation_links.proofs.CompiledLaws.{operation-there, owner-there}
 use Rattle.search_constraints.specs.Rows.{linkedFrom, linkedOf}
 
-module _ {x : Execution} {t : Operations} {marks : List (List ℕ)} (h : Compiled x t marks) where
+module _ {bytes : List ℕ} {x : Execution} {t : Operations} {marks : List (List ℕ)} (h : Compiled bytes x t marks) where
   abbrev its : ℕ → model.Instruction
   its v = instructionAt (x .instructions) v
 
@@ -40,7 +40,7 @@ module _ {x : Execution} {t : Operations} {marks : List (List ℕ)} (h : Compile
       → (a < t .count) × (operationAt (x .instructions) t a ≡ operationOf (its v) r)
   unfolding tableOf operationAt executionOf instructionsOf instructionAt allOperations operationsOf
   listed v l r mr a e =
-      let m : List·Memᴰ (operationOf (its v) r) (allOperations (executionOf x)) =
+      let m : List·Memᴰ (operationOf (its v) r) (allOperations (executionOf bytes x)) =
       in-for (operationsOf (x .processors)) (Memᴰ·map (instructionAt (x .instructions)) (in-below (x .instructions .count) v l)) (Memᴰ·map (operationOf (its v)) mr) in
       let (k, mk, q) = Memᴰ·of-map (operationAt (x .instructions) t) (below (t .count)) (subst (List·Memᴰ (operationOf (its v) r)) (sym (h .tabled .holds)) m) in
       let z : k ≡ a = ap (λ (o : Operation). o .number) q ∙ e in
@@ -78,10 +78,10 @@ module _ {x : Execution} {t : Operations} {marks : List (List ℕ)} (h : Compile
         let (k1, k2) = and-parts (ltb a (t .count)) _ k in
         let there = ltb-true a (t .count) k1 in
         let m = operation-there h a there in
-        let (j, short, e) = place-of F (operation-role (executionOf x) (operationAt (x .instructions) t a) m) in
+        let (j, short, e) = place-of F (operation-role (executionOf bytes x) (operationAt (x .instructions) t a) m) in
         let first = getD (x .instructions .firsts) owner 0 in
         let n : a ≡ first + j =
-        operation-number (executionOf x) (operationAt (x .instructions) t a) m ∙ ap (numberOf (its owner)) (sym e)
+        operation-number (executionOf bytes x) (operationAt (x .instructions) t a) m ∙ ap (numberOf (its owner)) (sym e)
         ∙ role-number (x .processors) (its owner) j short in
         let z : a - first ≡ j = omega arith in
         any-passes fromIts (x .instructions .count) owner (owner-there h a there)

@@ -60,30 +60,30 @@ module _ (marks role : ℕ) (kind : Kind) (first processors a : ℕ) where
     atomic-remotes l n = sym (rw (le-ltb role 3 l, sym f ∙ not-false r n) refl)
 
 -- the tables of an execution
-module _ {x : Execution} {t : Operations} {marks : List (List ℕ)} (h : Compiled x t marks) (accepted : Accepted (executionOf x)) where
+module _ {bytes : List ℕ} {x : Execution} {t : Operations} {marks : List (List ℕ)} (h : Compiled bytes x t marks) (accepted : Accepted (executionOf bytes x)) where
   module _ (o : ℕ) (there : o < t .count) where
     abbrev owner : Instruction
     owner = instructionAt (x .instructions) (getD (t .owners) o 0)
 
     -- the mark of an st.rel to WB
-    atomic : hasMark (markAt marks (getD (t .owners) o 0) (getD (t .owners) o 0)) 512 ≡ (isStore (owner .kind) && (isRelease (owner .kind) && inWB (executionOf x) owner))
+    atomic : hasMark (markAt marks (getD (t .owners) o 0) (getD (t .owners) o 0)) 512 ≡ (isStore (owner .kind) && (isRelease (owner .kind) && inWB (executionOf bytes x) owner))
     unfolding marksBetween marksOf
     atomic =
         ap (λ (k : ℕ). hasMark k 512) (h .marked (getD (t .owners) o 0) (getD (t .owners) o 0) (owner-there h o there) (owner-there h o there))
-        ∙ bit-packed (marksOf (executionOf x) owner owner) 9
-        ∙ ap (λ (b : Bool). b && (isStore (owner .kind) && (isRelease (owner .kind) && inWB (executionOf x) owner))) (eq-eqb (owner .number) (owner .number) refl)
+        ∙ bit-packed (marksOf (executionOf bytes x) owner owner) 9
+        ∙ ap (λ (b : Bool). b && (isStore (owner .kind) && (isRelease (owner .kind) && inWB (executionOf bytes x) owner))) (eq-eqb (owner .number) (owner .number) refl)
 
     module _ (mark : hasMark (markAt marks (getD (t .owners) o 0) (getD (t .owners) o 0)) 512 ≡ true) where
-      owner-store : List·Memᴰ owner (stores (executionOf x))
+      owner-store : List·Memᴰ owner (stores (executionOf bytes x))
       unfolding stores
       owner-store =
-          in-keep (λ i. isStore (i .kind)) (owner-in h o there) (and-parts (isStore (owner .kind)) (isRelease (owner .kind) && inWB (executionOf x) owner) (sym atomic ∙ mark) .0)
+          in-keep (λ i. isStore (i .kind)) (owner-in h o there) (and-parts (isStore (owner .kind)) (isRelease (owner .kind) && inWB (executionOf bytes x) owner) (sym atomic ∙ mark) .0)
 
-    same-remotes : (a : ℕ) → isRemote (owner .kind) (owner .first) (x .processors) a ≡ member (remoteOf (executionOf x) owner) a
+    same-remotes : (a : ℕ) → isRemote (owner .kind) (owner .first) (x .processors) a ≡ member (remoteOf (executionOf bytes x) owner) a
     unfolding isRemote remoteOf everyProcessor executionOf
     same-remotes a =
         any-below-same _ _ (x .processors) (λ q l. eqb-swap a (numberOf owner (RV q)))
-        ∙ sym (member-any (remoteOf (executionOf x) owner) a ∙ any-numbered (λ b. eqb b a) (λ q. numberOf owner (RV q)) (x .processors))
+        ∙ sym (member-any (remoteOf (executionOf bytes x) owner) a ∙ any-numbered (λ b. eqb b a) (λ q. numberOf owner (RV q)) (x .processors))
 
     module _ (a : ℕ) where
       -- what the tables say of o and a
@@ -94,41 +94,41 @@ module _ {x : Execution} {t : Operations} {marks : List (List ℕ)} (h : Compile
 
       abbrev atomicWith : Instruction → Bool
       atomicWith w =
-          isRelease (w .kind) && inWB (executionOf x) w && (member (remoteOf (executionOf x) w) o && member (remoteOf (executionOf x) w) a)
+          isRelease (w .kind) && inWB (executionOf bytes x) w && (member (remoteOf (executionOf bytes x) w) o && member (remoteOf (executionOf bytes x) w) a)
 
       -- by the tables: o's instruction is an st.rel to WB, and o one of its RVs
-      tables-say : byTables ≡ true → partner x o a ≡ true
+      tables-say : byTables ≡ true → partner bytes x o a ≡ true
       unfolding partnerOf partner
       tables-say k =
           let (k1, k2) = and-parts _ _ k in
           let (mark, k3) = and-parts _ _ k2 in
-          let (is-store, k4) = and-parts (isStore (owner .kind)) (isRelease (owner .kind) && inWB (executionOf x) owner) (sym atomic ∙ mark) in
+          let (is-store, k4) = and-parts (isStore (owner .kind)) (isRelease (owner .kind) && inWB (executionOf bytes x) owner) (sym atomic ∙ mark) in
           let q = getD (t .roles) o 0 - 3 in
           let r = role-RV (getD (t .roles) o 0) (ltb-false (getD (t .roles) o 0) 3 (not-true (ltb (getD (t .roles) o 0) 3) k1)) in
-          let l : q < executionOf x .processors = RV-few (executionOf x .processors) q (owner .kind) (subst (λ (s : Role). List·Memᴰ s (roles (executionOf x .processors) (owner .kind))) r (role-in h o there)) in
+          let l : q < executionOf bytes x .processors = RV-few (executionOf bytes x .processors) q (owner .kind) (subst (λ (s : Role). List·Memᴰ s (roles (executionOf bytes x .processors) (owner .kind))) r (role-in h o there)) in
           let n : numberOf owner (RV q) ≡ o = sym (number-is h o there ∙ ap (numberOf owner) r) in
           any-member atomicWith (owner-store mark)
           (and-both k4
-          (and-both (subst (λ (b : ℕ). member (remoteOf (executionOf x) owner) b ≡ true) n (in-remotes (executionOf x) owner q l))
+          (and-both (subst (λ (b : ℕ). member (remoteOf (executionOf bytes x) owner) b ≡ true) n (in-remotes (executionOf bytes x) owner q l))
           (sym (same-remotes a) ∙ k3)))
 
       -- by the rules: an st.rel to WB that has o among its RVs is o's instruction
-      rules-say : partner x o a ≡ true → byTables ≡ true
+      rules-say : partner bytes x o a ≡ true → byTables ≡ true
       unfolding partnerOf partner stores
       rules-say k =
-          let (w, mw, k1) = any-witness atomicWith (stores (executionOf x)) k in
-          let (k2, k3) = and-parts (isRelease (w .kind) && inWB (executionOf x) w) _ k1 in
-          let (k4, k5) = and-parts (member (remoteOf (executionOf x) w) o) _ k3 in
-          let (q, l, n) = RV-of (executionOf x) w (member-in _ o k4) in
-          let (iw, sw) = of-keep (λ i. isStore (i .kind)) (executionOf x .instructions) mw in
-          let same : w ≡ owner = one-owner (executionOf x) accepted iw (owner-in h o there) (operation-role (executionOf x) _ (RV-in (executionOf x) mw q l)) (role-in h o there) (n ∙ (number-is h o there)) in
+          let (w, mw, k1) = any-witness atomicWith (stores (executionOf bytes x)) k in
+          let (k2, k3) = and-parts (isRelease (w .kind) && inWB (executionOf bytes x) w) _ k1 in
+          let (k4, k5) = and-parts (member (remoteOf (executionOf bytes x) w) o) _ k3 in
+          let (q, l, n) = RV-of (executionOf bytes x) w (member-in _ o k4) in
+          let (iw, sw) = of-keep (λ i. isStore (i .kind)) (executionOf bytes x .instructions) mw in
+          let same : w ≡ owner = one-owner (executionOf bytes x) accepted iw (owner-in h o there) (operation-role (executionOf bytes x) _ (RV-in (executionOf bytes x) mw q l)) (role-in h o there) (n ∙ (number-is h o there)) in
           let mark : hasMark (markAt marks (getD (t .owners) o 0) (getD (t .owners) o 0)) 512 ≡ true =
-          atomic ∙ subst (λ (i : Instruction). (isStore (i .kind) && (isRelease (i .kind) && inWB (executionOf x) i)) ≡ true) same (and-both sw k2) in
+          atomic ∙ subst (λ (i : Instruction). (isStore (i .kind) && (isRelease (i .kind) && inWB (executionOf bytes x) i)) ≡ true) same (and-both sw k2) in
           and-both
           (past-first owner (getD (t .roles) o 0) q (sym (number-is h o there) ∙ sym n ∙ ap (λ (i : Instruction). numberOf i (RV q)) same))
           (and-both mark
-          (same-remotes a ∙ subst (λ (i : Instruction). member (remoteOf (executionOf x) i) a ≡ true) same k5))
+          (same-remotes a ∙ subst (λ (i : Instruction). member (remoteOf (executionOf bytes x) i) a ≡ true) same k5))
 
       -- the RVs of o's instruction, where o is one of them
-      pub partner-means : byTables ≡ partner x o a
-      partner-means = agree (byTables) (partner x o a) tables-say rules-say
+      pub partner-means : byTables ≡ partner bytes x o a
+      partner-means = agree (byTables) (partner bytes x o a) tables-say rules-say

@@ -112,10 +112,10 @@ load-same places v m x em absent =
     same false true = refl
     same false false = refl
 
-module _ {t : Tables} (h : TablesMean t) (accepted : Accepted (executionOf (t .execution))) (x : ℕ) (low : x < operations (executionOf (t .execution)))
+module _ {t : Tables} (h : TablesMean t) (accepted : Accepted (executionOf (t .bytes) (t .execution))) (x : ℕ) (low : x < operations (executionOf (t .bytes) (t .execution)))
     {xs places : List ℕ} {n : ℕ} (p : Placed n xs places) (new : member xs x ≡ false) (lo hi : ℕ) (standing : Standing xs lo hi) where
   abbrev e : model.Execution
-  e = executionOf (t .execution)
+  e = executionOf (t .bytes) (t .execution)
 
   abbrev instruction : ℕ → Instruction
   instruction i = instructionAt (t .execution .instructions) i

@@ -12,22 +12,26 @@ use borrow.Author.Tests.{eqb-true, leb-true, ltb-true}
 use Rattle.base.specs.Lists.{member}
 use Rattle.base.specs.Bits.{bit}
 use Rattle.base.proofs.Bools.{and-parts, clash}
-use Rattle.base.proofs.Lists.{getD-below}
+use Rattle.search_sets.proofs.Bit.{differ-cancel, has-xor}
 use Rattle.search_sets.proofs.Laws.{same-bits}
 use Rattle.model.specs.Execution as model
-use Rattle.model.specs.Execution.{isFence, Instruction, Line, noLine, initialByte}
+use Rattle.model.specs.Execution.{isFence, Instruction, initialByte}
 use Rattle.model.specs.Questions.{question7, question8}
 use Rattle.model.specs.Rules.{accesses, byteWritten}
 use Rattle.model.specs.Accepted.{Accepted, Sound}
 use Rattle.record_decoded.specs.declared.types.Execution.{Execution}
-use Rattle.record_decoded.specs.Decoded.{eight, decodedLine, linesOf, instructionAt, executionOf}
-use Rattle.record_decoded.proofs.Arrays.{lines-length}
-use Rattle.search_admit.specs.Rows.{covers, dataBit, Bytes}
+use Rattle.record_decoded.specs.Decoded.{eight, initialOf, instructionAt, executionOf}
+use Rattle.record_decoded.proofs.InitialBytes.{initial-is}
+use Rattle.search_admit.specs.Rows.{covers, relative, dataBit, Bytes}
 use Rattle.search_reduction.proofs.Ownership.{each-in}
 
 -- bytes with the same eight bits are equal
 pub same-byte : (a b : ℕ) → a < 256 → b < 256 → ((k : ℕ) → k < 8 → bit a k ≡ bit b k) → a ≡ b
 same-byte a b h l f = same-bits 8 a b h l f
+
+-- bits that are the same relative to one byte are the same
+pub same-relative : (a b c k : ℕ) → bit (relative a c) k ≡ bit (relative b c) k → bit a k ≡ bit b k
+same-relative a b c k h = differ-cancel (bit a k) (bit b k) (bit c k) (sym (has-xor a c k) ∙ h ∙ has-xor b c k)
 
 -- an access
 accessed : (i : Instruction) (a : ℕ) → accesses i a ≡ true → (i .address ≤ a) × (a < i .address + i .size)
@@ -109,9 +113,9 @@ fits-line {processors} {lines} {i} s = go (isFence (i .kind)) (s .size-passed) (
     go true m d = omega (arith, none (i .size) m, eqb-true (i .address) 0 d)
     go false m d = fits-one (i .address) (i .size) (sizes (i .size) m) (and-parts (eqb (i .address % i .size) 0) (leb (i .address + i .size) (8 * lines)) d .0)
 
-module _ (x : Execution) (accepted : Accepted (executionOf x)) where
+module _ (bytes : List ℕ) (x : Execution) (accepted : Accepted (executionOf bytes x)) where
   abbrev e : model.Execution
-  e = executionOf x
+  e = executionOf bytes x
 
   abbrev instruction : ℕ → Instruction
   instruction i = instructionAt (x .instructions) i
@@ -133,21 +137,21 @@ module _ (x : Execution) (accepted : Accepted (executionOf x)) where
       ∙ getD-drop (8 * w) (x .instructions .bytes) (a - instruction w .address) 0
 
   pub data-is : (w a i k : ℕ) → Within (length (e .lines)) (instruction w) a → accesses (instruction w) a ≡ true → i / 8 ≡ a % 8 → i % 8 ≡ k
-      → dataBit x w i ≡ bit (byteWritten (instruction w) a) k
+      → dataBit bytes x w i ≡ bit (relative (byteWritten (instruction w) a) (initialByte e a)) k
   unfolding dataBit instructionAt
   data-is w a i k h there at bits =
-      ap (λ (b : Bool). b && bit (getD (x .instructions .bytes) (8 * w + (i / 8 - instruction w .address % 8)) 0) (i % 8)) (covers-is w a i (h .one-line) at ∙ there)
-      ∙ ap₂ (λ (j m : ℕ). bit (getD (x .instructions .bytes) (8 * w + j) 0) m) (omega (arith, h .one-line, h .from)) bits
-      ∙ ap (λ (b : ℕ). bit b k) (sym (byte-at w a h))
+      ap (λ (b : Bool). b && bit (relative (getD (x .instructions .bytes) (8 * w + (i / 8 - instruction w .address % 8)) 0) (initialOf bytes (x .lines .count) (8 * (instruction w .address / 8) + i / 8))) (i % 8))
+      (covers-is w a i (h .one-line) at ∙ there)
+      ∙ ap₂ (λ (j m : ℕ). bit (relative (getD (x .instructions .bytes) (8 * w + j) 0) (initialOf bytes (x .lines .count) (8 * (instruction w .address / 8) + i / 8))) m) (omega (arith, h .one-line, h .from)) bits
+      ∙ ap₂ (λ (b c : ℕ). bit (relative b c) k) (sym (byte-at w a h)) (ap (initialOf bytes (x .lines .count)) (omega (arith, h .one-line)) ∙ sym (initial-is bytes x a))
 
   pub byte-small : Bytes (x .instructions .bytes) → (w a : ℕ) → Within (length (e .lines)) (instruction w) a → byteWritten (instruction w) a < 256
   byte-small small w a h = subst (λ (b : ℕ). b < 256) (sym (byte-at w a h)) (small (8 * w + (a - instruction w .address)))
 
-  -- the initial byte of an address
-  pub initial-at : (a : ℕ) → a < 8 * length (e .lines) → initialByte e a ≡ getD (x .lines .initial) a 0
-  unfolding initialByte model.lineAt executionOf linesOf decodedLine eight
-  initial-at a h =
-      ap (λ (l : Line). getD (l .initial) (a % 8) 0) (getD-below (decodedLine (x .lines)) noLine (x .lines .count) (a / 8) (omega (arith, h, lines-length (x .lines))))
-      ∙ getD-take 8 (drop (8 * (a / 8)) (x .lines .initial)) (a % 8) 0 (omega arith)
-      ∙ getD-drop (8 * (a / 8)) (x .lines .initial) (a % 8) 0
-      ∙ ap (λ (j : ℕ). getD (x .lines .initial) j 0) (omega arith)
+  pub initial-small : Bytes bytes → (a : ℕ) → initialByte e a < 256
+  unfolding initialOf
+  initial-small small a = subst (λ (v : ℕ). v < 256) (sym (initial-is bytes x a)) (by (ltb (a / 8) (x .lines .count)))
+    where
+      by : (there : Bool) → cond there (getD bytes (3 + 9 * (a / 8) + a % 8) 0) 0 < 256
+      by true = small (3 + 9 * (a / 8) + a % 8)
+      by false = omega arith

@@ -34,10 +34,10 @@ use Rattle.search_meaning.proofs.Tables.{Tables, TablesMean}
 use Rattle.search_meaning.proofs.Refusals.{missingBy, storeLost, loadLost, refusesBy, refusedBy}
 use Rattle.search_meaning.proofs.Owners.{role-in, number-is, owner-is, by-number, numbered-in}
 
-module _ {t : Tables} (h : TablesMean t) (accepted : Accepted (executionOf (t .execution))) (x : ℕ) (low : x < operations (executionOf (t .execution)))
+module _ {t : Tables} (h : TablesMean t) (accepted : Accepted (executionOf (t .bytes) (t .execution))) (x : ℕ) (low : x < operations (executionOf (t .bytes) (t .execution)))
     {xs places : List ℕ} {n : ℕ} (p : Placed n xs places) (new : member xs x ≡ false) where
   abbrev e : model.Execution
-  e = executionOf (t .execution)
+  e = executionOf (t .bytes) (t .execution)
 
   abbrev instruction : ℕ → Instruction
   instruction i = instructionAt (t .execution .instructions) i

@@ -112,9 +112,9 @@ module _ (e : model.Execution) where
     interrupts-by release none ma here mc misses =
         and-both (and-both (and-both release (ap not none)) (any-member (member xs) ma here)) (any-member (missing e x xs) mc (ap not misses))
 
-module _ {t : Tables} (h : TablesMean t) (accepted : Accepted (executionOf (t .execution))) where
+module _ {t : Tables} (h : TablesMean t) (accepted : Accepted (executionOf (t .bytes) (t .execution))) where
   abbrev e : model.Execution
-  e = executionOf (t .execution)
+  e = executionOf (t .bytes) (t .execution)
 
   abbrev n : ℕ
   n = operations e
@@ -205,10 +205,10 @@ module _ {t : Tables} (h : TablesMean t) (accepted : Accepted (executionOf (t .e
       clash here refl)))
 
 -- the test by the partners of the last entry is rule 12
-pub due-is : {t : Tables} → TablesMean t → Accepted (executionOf (t .execution)) → (x : ℕ) → x < operations (executionOf (t .execution))
-    → (xs : List ℕ) (lo hi : ℕ) → consistent (executionOf (t .execution)) xs ≡ true → distinct (operations (executionOf (t .execution))) [] xs ≡ true
+pub due-is : {t : Tables} → TablesMean t → Accepted (executionOf (t .bytes) (t .execution)) → (x : ℕ) → x < operations (executionOf (t .bytes) (t .execution))
+    → (xs : List ℕ) (lo hi : ℕ) → consistent (executionOf (t .bytes) (t .execution)) xs ≡ true → distinct (operations (executionOf (t .bytes) (t .execution))) [] xs ≡ true
     → Standing xs lo hi → member xs x ≡ false
-    → dueOf (t .rows) xs lo hi x ≡ not (any (interrupts (executionOf (t .execution)) x xs) (stores (executionOf (t .execution))))
+    → dueOf (t .rows) xs lo hi x ≡ not (any (interrupts (executionOf (t .bytes) (t .execution)) x xs) (stores (executionOf (t .bytes) (t .execution))))
 due-is {t} h accepted x low xs lo hi consists different standing new =
     by-last Claimed
     (λ c d s. due-first h accepted x lo hi)
@@ -216,7 +216,7 @@ due-is {t} h accepted x low xs lo hi consists different standing new =
     xs consists different standing
   where
     e′ : model.Execution
-    e′ = executionOf (t .execution)
+    e′ = executionOf (t .bytes) (t .execution)
 
     Claimed : List ℕ → Type 0
     Claimed l = consistent e′ l ≡ true → distinct (operations e′) [] l ≡ true → Standing l lo hi

@@ -23,11 +23,11 @@ use Rattle.search_meaning.proofs.Awaited.{awaited-refuse}
 use Rattle.search_meaning.proofs.Sees.{reads-is}
 use Rattle.search_meaning.proofs.Due.{due-is}
 
-module _ {t : Tables} (h : TablesMean t) (accepted : Accepted (executionOf (t .execution))) where
+module _ {t : Tables} (h : TablesMean t) (accepted : Accepted (executionOf (t .bytes) (t .execution))) where
   -- an operation that does not stand
-  not-standing : (xs places : List ℕ) (lo hi x : ℕ) → consistent (executionOf (t .execution)) xs ≡ true → Placed (operations (executionOf (t .execution))) xs places
-      → Standing xs lo hi → x < operations (executionOf (t .execution)) → member xs x ≡ false
-      → (dueOf (t .rows) xs lo hi x && (not (holds lo hi x) && fitsBy (t .rows) places lo hi (wordsAfter (t .rows) xs) x)) ≡ admits (executionOf (t .execution)) x xs
+  not-standing : (xs places : List ℕ) (lo hi x : ℕ) → consistent (executionOf (t .bytes) (t .execution)) xs ≡ true → Placed (operations (executionOf (t .bytes) (t .execution))) xs places
+      → Standing xs lo hi → x < operations (executionOf (t .bytes) (t .execution)) → member xs x ≡ false
+      → (dueOf (t .rows) xs lo hi x && (not (holds lo hi x) && fitsBy (t .rows) places lo hi (wordsAfter (t .rows) xs) x)) ≡ admits (executionOf (t .bytes) (t .execution)) x xs
   unfolding fitsBy admits
   not-standing xs places lo hi x consists p standing low new =
       rw (
@@ -37,12 +37,12 @@ module _ {t : Tables} (h : TablesMean t) (accepted : Accepted (executionOf (t .e
         awaited-refuse h accepted x low p new lo hi standing ∙ refused-is h accepted x low p new,
         reads-is h accepted x low xs (p .different) lo hi standing,
       )
-      (sorted (any (unready (executionOf (t .execution)) x xs) (linksOf (executionOf (t .execution)) (linked (executionOf (t .execution)))))
-      (any (interrupts (executionOf (t .execution)) x xs) (stores (executionOf (t .execution))))
-      (any (lost (executionOf (t .execution)) x xs) (ownDemands (executionOf (t .execution)) x))
-      (any (lost (executionOf (t .execution)) x xs) (remoteDemands (executionOf (t .execution)) x))
-      (any (lost (executionOf (t .execution)) x xs) (bypassDemands (executionOf (t .execution)) x))
-      (any (unseen (executionOf (t .execution)) x xs) (sights (executionOf (t .execution)) x)))
+      (sorted (any (unready (executionOf (t .bytes) (t .execution)) x xs) (linksOf (executionOf (t .bytes) (t .execution)) (linked (executionOf (t .bytes) (t .execution)))))
+      (any (interrupts (executionOf (t .bytes) (t .execution)) x xs) (stores (executionOf (t .bytes) (t .execution))))
+      (any (lost (executionOf (t .bytes) (t .execution)) x xs) (ownDemands (executionOf (t .bytes) (t .execution)) x))
+      (any (lost (executionOf (t .bytes) (t .execution)) x xs) (remoteDemands (executionOf (t .bytes) (t .execution)) x))
+      (any (lost (executionOf (t .bytes) (t .execution)) x xs) (bypassDemands (executionOf (t .bytes) (t .execution)) x))
+      (any (unseen (executionOf (t .bytes) (t .execution)) x xs) (sights (executionOf (t .bytes) (t .execution)) x)))
     where
       sorted : (a i o r b u : Bool) → (not i && (not a && (not (o || r || b) && not u))) ≡ not (a || i || o || r || b || u)
       sorted true true o r b u = refl
@@ -53,11 +53,11 @@ module _ {t : Tables} (h : TablesMean t) (accepted : Accepted (executionOf (t .e
       sorted false false false false true u = refl
       sorted false false false false false u = refl
 
-  pub tested : Tested (consistent (executionOf (t .execution))) (operations (executionOf (t .execution))) (t .rows)
+  pub tested : Tested (consistent (executionOf (t .bytes) (t .execution))) (operations (executionOf (t .bytes) (t .execution))) (t .rows)
   unfolding fitsBy
   tested = record {
     one-more = λ xs places lo hi x consists p standing low.
         split (member xs x)
         (λ m. rw (m, standing x (omega (arith, accepted .operations-few)) ∙ m) (and-false (dueOf (t .rows) xs lo hi x)))
-        (λ new. rw new (not-standing xs places lo hi x consists p standing low new ∙ sym (admits-more (executionOf (t .execution)) accepted xs x consists new low)));
+        (λ new. rw new (not-standing xs places lo hi x consists p standing low new ∙ sym (admits-more (executionOf (t .bytes) (t .execution)) accepted xs x consists new low)));
   }

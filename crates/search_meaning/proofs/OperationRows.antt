@@ -23,9 +23,9 @@ use Rattle.search_meaning.proofs.Owners.{owner-is, number-low}
 pub RV-writes : (k : ℕ) → 3 ≤ k → writes k ≡ true
 RV-writes k h = ap (λ (b : Bool). eqb k 1 || b) (le-leb 3 k h) ∙ or-true (eqb k 1)
 
-module _ {t : Tables} (h : TablesMean t) (accepted : Accepted (executionOf (t .execution))) where
+module _ {t : Tables} (h : TablesMean t) (accepted : Accepted (executionOf (t .bytes) (t .execution))) where
   abbrev e : model.Execution
-  e = executionOf (t .execution)
+  e = executionOf (t .bytes) (t .execution)
 
   abbrev instruction : ℕ → Instruction
   instruction i = instructionAt (t .execution .instructions) i

@@ -25,9 +25,9 @@ one-role p i mr ms e =
     let same : j ≡ k = omega (arith, role-number p i j lj, role-number p i k lk, ap (numberOf i) ej, ap (numberOf i) ek) in
     sym ej ∙ ap (λ (n : ℕ). getD (roles p (i .kind)) n F) same ∙ ek
 
-module _ {t : Tables} (h : TablesMean t) (accepted : Accepted (executionOf (t .execution))) (x : ℕ) (low : x < operations (executionOf (t .execution))) where
+module _ {t : Tables} (h : TablesMean t) (accepted : Accepted (executionOf (t .bytes) (t .execution))) (x : ℕ) (low : x < operations (executionOf (t .bytes) (t .execution))) where
   abbrev e : model.Execution
-  e = executionOf (t .execution)
+  e = executionOf (t .bytes) (t .execution)
 
   abbrev owner : ℕ
   owner = getD (t .operations .owners) x 0
@@ -61,19 +61,19 @@ module _ {t : Tables} (h : TablesMean t) (accepted : Accepted (executionOf (t .e
       )
 
 -- an instruction of the execution by its number
-pub by-number : (t : Tables) {i : Instruction} → List·Memᴰ i (executionOf (t .execution) .instructions)
+pub by-number : (t : Tables) {i : Instruction} → List·Memᴰ i (executionOf (t .bytes) (t .execution) .instructions)
     → (k : ℕ) × (k < t .execution .instructions .count) × (instructionAt (t .execution .instructions) k ≡ i)
 unfolding executionOf instructionsOf
 by-number t m =
     let (k, mk, q) = Memᴰ·of-map (instructionAt (t .execution .instructions)) (below (t .execution .instructions .count)) m in
     (k, of-below (t .execution .instructions .count) mk, q)
 
-pub numbered-in : (t : Tables) (k : ℕ) → k < t .execution .instructions .count → List·Memᴰ (instructionAt (t .execution .instructions) k) (executionOf (t .execution) .instructions)
+pub numbered-in : (t : Tables) (k : ℕ) → k < t .execution .instructions .count → List·Memᴰ (instructionAt (t .execution .instructions) k) (executionOf (t .bytes) (t .execution) .instructions)
 unfolding executionOf instructionsOf
 numbered-in t k l = Memᴰ·map (instructionAt (t .execution .instructions)) (in-below (t .execution .instructions .count) k l)
 
 -- the number of an operation is below their count
-pub number-low : {t : Tables} → TablesMean t → {a : model.Operation} → List·Memᴰ a (allOperations (executionOf (t .execution))) → a .number < operations (executionOf (t .execution))
+pub number-low : {t : Tables} → TablesMean t → {a : model.Operation} → List·Memᴰ a (allOperations (executionOf (t .bytes) (t .execution))) → a .number < operations (executionOf (t .bytes) (t .execution))
 unfolding tableOf operationAt
 number-low {t} h {a} m =
     let (k, mk, q) = Memᴰ·of-map _ (below (t .operations .count)) (subst (List·Memᴰ a) (sym (h .compiled .tabled .holds)) m) in

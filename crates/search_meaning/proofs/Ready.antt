@@ -26,7 +26,7 @@ use Rattle.search_admit.specs.Fits.{Standing}
 
 module _ {t : Tables} (h : TablesMean t) where
   abbrev e : model.Execution
-  e = executionOf (t .execution)
+  e = executionOf (t .bytes) (t .execution)
 
   abbrev n : ℕ
   n = operations e

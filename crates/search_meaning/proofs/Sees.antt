@@ -4,8 +4,8 @@ use native.Mathlib.Omega.{arith}
 use mathlib.Core.Path.{_≡_, refl, sym, ap, ap₂, _∙_, subst}
 use mathlib.Core.Bool.{Bool, true, false, not, cond, _&&_, _||_}
 use mathlib.Core.List.{List, [], map, List·Memᴰ, Memᴰ·of-map}
-use lib.ListN.{length, getD, drop, length-drop}
-use lib.Seq.{length-take-le}
+use lib.ListN.{length, getD, getD-replicate}
+use lib.Bits.{xor-self}
 use lib.Dec.{eqb, leb, ltb}
 use borrow.Author.Tests.{eq-eqb, eqb-true, le-leb, leb-true, ltb-true, lt-ltb, not-true}
 use Rattle.base.specs.Lists.{any, keep, count, member, distinct}
@@ -25,12 +25,13 @@ use Rattle.record_decoded.proofs.RoleNumbers.{number-R, role-R}
 use Rattle.search_reduction.specs.Admits.{lastByte, missing, byteNow, unseen, sights}
 use Rattle.search_reduction.proofs.Ownership.{each-in, is-store, is-load, store-processor}
 use Rattle.search_sets.specs.Set.{holds}
-use Rattle.search_admit.specs.Rows.{bypasses, bypassOf, writtenBits, localOf, readBits, readData, visibleWord, ownWord, visibleAt, ownAt, covers, dataBit, firstWords, wordsAfter}
+use Rattle.search_sets.proofs.Laws.{zero-has}
+use Rattle.search_admit.specs.Rows.{bypasses, bypassOf, writtenBits, localOf, readBits, readData, visibleWord, ownWord, visibleAt, ownAt, covers, relative, dataBit, firstWords, wordsAfter}
 use Rattle.search_admit.specs.Fits.{bothOrNeither, pending, localBit, readsRecorded, Standing}
 use Rattle.search_meaning.proofs.Tables.{Tables, TablesMean}
 use Rattle.search_meaning.proofs.Owners.{role-in, owner-in, owner-is, number-is, by-number, numbered-in}
 use Rattle.search_meaning.proofs.OperationRows.{RV-writes, IsRV, is-RV}
-use Rattle.search_meaning.proofs.Bytes.{Within, same-byte, accesses-within, covers-is, data-is, byte-small, initial-at}
+use Rattle.search_meaning.proofs.Bytes.{Within, same-byte, accesses-within, covers-is, data-is, byte-small, initial-small, same-relative}
 use Rattle.search_meaning.proofs.Words.{last-below, words-are}
 use Rattle.search_meaning.proofs.Sources.{visible-does, own-does}
 
@@ -57,10 +58,10 @@ in-reach i b h =
     let (l, r) = and-parts (leb (i .address) b) (ltb b (i .address + i .size)) h in
     in-count (i .address) (i .size) b (leb-true (i .address) b l) (ltb-true b (i .address + i .size) r)
 
-module _ {t : Tables} (h : TablesMean t) (accepted : Accepted (executionOf (t .execution))) (x : ℕ) (low : x < operations (executionOf (t .execution)))
-    (xs : List ℕ) (different : distinct (operations (executionOf (t .execution))) [] xs ≡ true) (lo hi : ℕ) (standing : Standing xs lo hi) where
+module _ {t : Tables} (h : TablesMean t) (accepted : Accepted (executionOf (t .bytes) (t .execution))) (x : ℕ) (low : x < operations (executionOf (t .bytes) (t .execution)))
+    (xs : List ℕ) (different : distinct (operations (executionOf (t .bytes) (t .execution))) [] xs ≡ true) (lo hi : ℕ) (standing : Standing xs lo hi) where
   abbrev e : model.Execution
-  e = executionOf (t .execution)
+  e = executionOf (t .bytes) (t .execution)
 
   abbrev instruction : ℕ → Instruction
   instruction i = instructionAt (t .execution .instructions) i
@@ -77,9 +78,6 @@ module _ {t : Tables} (h : TablesMean t) (accepted : Accepted (executionOf (t .e
   abbrev words : List ℕ
   words = wordsAfter (t .rows) xs
 
-  first-long : length (firstWords (t .rows)) ≡ 128
-  first-long = length-take-le 128 (drop 2176 (t .rows)) (omega (arith, length-drop 2176 (t .rows), h .whole))
-
   here : List·Memᴰ load (e .instructions)
   here = owner-in h accepted x low
 
@@ -89,7 +87,7 @@ module _ {t : Tables} (h : TablesMean t) (accepted : Accepted (executionOf (t .e
   -- x is an R, and b one of its bytes
   module _ (reads : role ≡ 0) (b k i : ℕ) (reads-b : accesses load b ≡ true) (at : i / 8 ≡ b % 8) (bits : i % 8 ≡ k) where
     its : Within (length (e .lines)) load b
-    its = accesses-within (t .execution) accepted owner b here reads-b
+    its = accesses-within (t .bytes) (t .execution) accepted owner b here reads-b
 
     small : i < 64
     small = omega (arith, at)
@@ -116,30 +114,33 @@ module _ {t : Tables} (h : TablesMean t) (accepted : Accepted (executionOf (t .e
         ap (λ (v : ℕ). v % 128) (h .rowed x low .reads-own reads)
         ∙ (let z : ownAt (load .processor) (load .address / 8) % 128 ≡ ownAt (load .processor) (b / 8) = omega (arith, its .one-line, line-low, processor-low) in z)
 
-    first-bit : (c : ℕ) → c < 128 → c % 8 ≡ b / 8 → bit (getD (firstWords (t .rows)) c 0) i ≡ bit (initialByte e b) k
-    first-bit c l m =
-        h .starts c i l small
-        ∙ ap₂ (λ (j n : ℕ). bit (getD (t .execution .lines .initial) j 0) n) (omega (arith, m)) bits
-        ∙ ap (λ (v : ℕ). bit v k) (sym (initial-at (t .execution) accepted b (its .there)))
+    -- bit k of a byte at b, relative to the initial byte
+    abbrev of : ℕ → Bool
+    of v = bit (relative v (initialByte e b)) k
+
+    first-bit : (c : ℕ) → c < 128 → bit (getD firstWords c 0) i ≡ of (initialByte e b)
+    first-bit c l =
+        ap (λ (v : ℕ). bit v i) (getD-replicate 128 c 0 0 l) ∙ zero-has i
+        ∙ sym (ap (λ (v : ℕ). bit v k) (xor-self (initialByte e b)) ∙ zero-has k)
 
     -- what is visible, and what the own processor wrote
-    visible-bit : bit (getD words (visibleWord (t .rows) x) 0) i ≡ bit (lastByte (map (λ w. (w .rv, w .wrote)) (sight .writers)) (sight .initial) xs) k
+    visible-bit : bit (getD words (visibleWord (t .rows) x) 0) i ≡ of (lastByte (map (λ w. (w .rv, w .wrote)) (sight .writers)) (sight .initial) xs)
     unfolding sightOf
     visible-bit =
         ap (λ (c : ℕ). bit (getD words c 0) i) visible-word
-        ∙ words-are (t .rows) _ (visibleAt (load .processor) (b / 8)) i k (omega (arith, line-low, processor-low)) xs
+        ∙ words-are (t .rows) _ (visibleAt (load .processor) (b / 8)) i of (omega (arith, line-low, processor-low)) xs
         (λ o m. visible-does h accepted (load .processor) b k i few (its .there) at bits o (distinct-in (operations e) [] xs different m))
-        (firstWords (t .rows)) (initialByte e b) first-long (first-bit (visibleAt (load .processor) (b / 8)) (omega (arith, line-low, processor-low)) (omega (arith, line-low)))
-        ∙ ap (λ (l : List (ℕ × ℕ)). bit (lastByte l (initialByte e b) xs) k) (sym (map-map (λ w. (w .rv, w .wrote)) _ (keep (λ w. accesses w b) (stores e))))
+        firstWords (initialByte e b) refl (first-bit (visibleAt (load .processor) (b / 8)) (omega (arith, line-low, processor-low)))
+        ∙ ap (λ (l : List (ℕ × ℕ)). of (lastByte l (initialByte e b) xs)) (sym (map-map (λ w. (w .rv, w .wrote)) _ (keep (λ w. accesses w b) (stores e))))
 
-    own-bit : bit (getD words (ownWord (t .rows) x) 0) i ≡ bit (lastByte (map (λ w. (w .lv, w .wrote)) (keep (λ w. w .own) (sight .writers))) (sight .initial) xs) k
+    own-bit : bit (getD words (ownWord (t .rows) x) 0) i ≡ of (lastByte (map (λ w. (w .lv, w .wrote)) (keep (λ w. w .own) (sight .writers))) (sight .initial) xs)
     unfolding sightOf
     own-bit =
         ap (λ (c : ℕ). bit (getD words c 0) i) own-word
-        ∙ words-are (t .rows) _ (ownAt (load .processor) (b / 8)) i k (omega (arith, line-low, processor-low)) xs
+        ∙ words-are (t .rows) _ (ownAt (load .processor) (b / 8)) i of (omega (arith, line-low, processor-low)) xs
         (λ o m. own-does h accepted (load .processor) b k i few (its .there) at bits o (distinct-in (operations e) [] xs different m))
-        (firstWords (t .rows)) (initialByte e b) first-long (first-bit (ownAt (load .processor) (b / 8)) (omega (arith, line-low, processor-low)) (omega (arith, line-low)))
-        ∙ ap (λ (l : List (ℕ × ℕ)). bit (lastByte l (initialByte e b) xs) k)
+        firstWords (initialByte e b) refl (first-bit (ownAt (load .processor) (b / 8)) (omega (arith, line-low, processor-low)))
+        ∙ ap (λ (l : List (ℕ × ℕ)). of (lastByte l (initialByte e b) xs))
         (sym (ap (map (λ w. (w .lv, w .wrote))) (keep-map (λ w. w .own) _ (keep (λ w. accesses w b) (stores e))) ∙ map-map (λ w. (w .lv, w .wrote)) _ (keep (λ w. eqb (w .processor) (load .processor)) (keep (λ w. accesses w b) (stores e)))))
 
     -- a store of the own processor whose LV stands and whose RV does not
@@ -183,7 +184,7 @@ module _ {t : Tables} (h : TablesMean t) (accepted : Accepted (executionOf (t .e
       wrote-bit line =
           h .rowed m (rv .low) .writes-bits i small
           ∙ ap (λ (u : Bool). u && covers (t .execution) (getD (t .operations .owners) m 0) i) (RV-writes (getD (t .operations .roles) m 0) (omega (arith, rv .role-is)))
-          ∙ covers-is (t .execution) accepted (getD (t .operations .owners) m 0) b i (sym line ∙ ap (λ (w : Instruction). w .address / 8) (rv .owner-is)) at
+          ∙ covers-is (t .bytes) (t .execution) accepted (getD (t .operations .owners) m 0) b i (sym line ∙ ap (λ (w : Instruction). w .address / 8) (rv .owner-is)) at
           ∙ ap (λ (w : Instruction). accesses w b) (sym (rv .owner-is))
 
       stands-local : (ltb (localOf (t .rows) m) 128 && holds lo hi (localOf (t .rows) m)) ≡ member xs (numberOf (instruction v) LV)
@@ -236,7 +237,7 @@ module _ {t : Tables} (h : TablesMean t) (accepted : Accepted (executionOf (t .e
             let sv = ap (λ (u : Instruction). isStore (u .kind)) q ∙ sw in
             let own : instruction v .processor ≡ load .processor = ap (λ (u : Instruction). u .processor) q ∙ eqb-true (w .processor) (load .processor) k3 in
             let reach = ap (λ (u : Instruction). accesses u b) q ∙ k1 in
-            let line : instruction v .address / 8 ≡ b / 8 = sym (accesses-within (t .execution) accepted v b (numbered-in t v l) reach .one-line) in
+            let line : instruction v .address / 8 ≡ b / 8 = sym (accesses-within (t .bytes) (t .execution) accepted v b (numbered-in t v l) reach .one-line) in
             let o = m v l sv own in
             let o-low : o < 128 = omega (arith, rv v l sv own .low, accepted .operations-few) in
             any-passes _ 128 o o-low
@@ -249,27 +250,27 @@ module _ {t : Tables} (h : TablesMean t) (accepted : Accepted (executionOf (t .e
             (wrote-bit v l sv own line ∙ reach))
 
     -- the bit that is seen is the byte's that rule 11 gives
-    pub seen-bit : cond (localBit (t .rows) lo hi x i) (bit (getD words (ownWord (t .rows) x) 0) i) (bit (getD words (visibleWord (t .rows) x) 0) i) ≡ bit (byteNow e x xs sight) k
+    pub seen-bit : cond (localBit (t .rows) lo hi x i) (bit (getD words (ownWord (t .rows) x) 0) i) (bit (getD words (visibleWord (t .rows) x) 0) i) ≡ of (byteNow e x xs sight)
     unfolding byteNow
     seen-bit =
         ap (λ (u : Bool). cond u (bit (getD words (ownWord (t .rows) x) 0) i) (bit (getD words (visibleWord (t .rows) x) 0) i)) local-is
         ∙ ap₂ (cond (any (λ w. w .own && (member xs (w .lv) && missing e x xs (w .rv))) (sight .writers))) own-bit visible-bit
         ∙ by (any (λ w. w .own && (member xs (w .lv) && missing e x xs (w .rv))) (sight .writers)) _ _
       where
-        by : (u : Bool) (a c : ℕ) → cond u (bit a k) (bit c k) ≡ bit (cond u a c) k
+        by : (u : Bool) (a c : ℕ) → cond u (of a) (of c) ≡ of (cond u a c)
         by true a c = refl
         by false a c = refl
 
     -- and so is the recorded one
-    pub recorded-bit : bit (readData (t .rows) x) i ≡ bit (byteSeen load b) k
+    pub recorded-bit : bit (readData (t .rows) x) i ≡ of (byteSeen load b)
     recorded-bit =
-        h .rowed x low .reads-data i small ∙ ap (λ (u : Bool). u && dataBit (t .execution) owner i) (eq-eqb role 0 reads)
-        ∙ data-is (t .execution) accepted owner b i k its reads-b at bits
+        h .rowed x low .reads-data i small ∙ ap (λ (u : Bool). u && dataBit (t .bytes) (t .execution) owner i) (eq-eqb role 0 reads)
+        ∙ data-is (t .bytes) (t .execution) accepted owner b i k its reads-b at bits
 
     pub read-bit : bit (readBits (t .rows) x) i ≡ true
     read-bit =
         h .rowed x low .reads-bits i small ∙ ap (λ (u : Bool). u && covers (t .execution) owner i) (eq-eqb role 0 reads)
-        ∙ covers-is (t .execution) accepted owner b i (its .one-line) at ∙ reads-b
+        ∙ covers-is (t .bytes) (t .execution) accepted owner b i (its .one-line) at ∙ reads-b
 
   -- a byte that rule 11 gives is below 256
   now-small : (b : ℕ) → accesses load b ≡ true → byteNow e x xs (sightOf e load b) < 256
@@ -285,7 +286,7 @@ module _ {t : Tables} (h : TablesMean t) (accepted : Accepted (executionOf (t .e
       writers = sightOf e load b .writers
 
       initial : initialByte e b < 256
-      initial = subst (λ (v : ℕ). v < 256) (sym (initial-at (t .execution) accepted b (accesses-within (t .execution) accepted owner b here reads-b .there))) (h .initial-bytes b)
+      initial = initial-small (t .bytes) (t .execution) accepted (h .initial-bytes) b
 
       wrote : (u : Writer) → List·Memᴰ u writers → u .wrote < 256
       wrote u mu =
@@ -293,7 +294,7 @@ module _ {t : Tables} (h : TablesMean t) (accepted : Accepted (executionOf (t .e
           let (ms, reach) = of-keep (λ w. accesses w b) (stores e) mw in
           let (v, l, r) = by-number t (is-store e ms .0) in
           subst (λ (z : Writer). z .wrote < 256) q (subst (λ (i : Instruction). byteWritten i b < 256) r
-          (byte-small (t .execution) accepted (h .data-bytes) v b (accesses-within (t .execution) accepted v b (numbered-in t v l) (ap (λ (i : Instruction). accesses i b) r ∙ reach))))
+          (byte-small (t .bytes) (t .execution) accepted (h .data-bytes) v b (accesses-within (t .bytes) (t .execution) accepted v b (numbered-in t v l) (ap (λ (i : Instruction). accesses i b) r ∙ reach))))
 
       by : (u : Bool) {a c : ℕ} → a < 256 → c < 256 → cond u a c < 256
       by true p q = p
@@ -317,14 +318,15 @@ module _ {t : Tables} (h : TablesMean t) (accepted : Accepted (executionOf (t .e
   byte-agrees : role ≡ 0 → allBelow 64 agrees ≡ true → (b : ℕ) → accesses load b ≡ true → byteNow e x xs (sightOf e load b) ≡ byteSeen load b
   byte-agrees reads all b reads-b =
       same-byte (byteNow e x xs (sightOf e load b)) (byteSeen load b) (now-small b reads-b)
-      (byte-small (t .execution) accepted (h .data-bytes) owner b (accesses-within (t .execution) accepted owner b here reads-b))
+      (byte-small (t .bytes) (t .execution) accepted (h .data-bytes) owner b (accesses-within (t .bytes) (t .execution) accepted owner b here reads-b))
       (λ k l.
       let i = bitOf b k in
       let at : i / 8 ≡ b % 8 = omega arith in
       let bits : i % 8 ≡ k = omega arith in
-      sym (seen-bit reads b k i reads-b at bits)
+      same-relative (byteNow e x xs (sightOf e load b)) (byteSeen load b) (initialByte e b) k
+      (sym (seen-bit reads b k i reads-b at bits)
       ∙ same-true (seenAt i) (bit (readData (t .rows) x) i) (sym (agrees-read i (read-bit reads b k i reads-b at bits)) ∙ all-at agrees 64 all i (omega arith))
-      ∙ recorded-bit reads b k i reads-b at bits)
+      ∙ recorded-bit reads b k i reads-b at bits))
 
   seen-is : (b : ℕ) → sightOf e load b .seen ≡ byteSeen load b
   unfolding sightOf
@@ -358,7 +360,7 @@ module _ {t : Tables} (h : TablesMean t) (accepted : Accepted (executionOf (t .e
       let at : i / 8 ≡ b % 8 = omega arith in
       agrees-read i r
       ∙ same-refl (seenAt i) (bit (readData (t .rows) x) i)
-      (seen-bit reads b (i % 8) i r2 at refl ∙ ap (λ (v : ℕ). bit v (i % 8)) (seen-in reads b r2 none) ∙ sym (recorded-bit reads b (i % 8) i r2 at refl))
+      (seen-bit reads b (i % 8) i r2 at refl ∙ ap (λ (v : ℕ). bit (relative v (initialByte e b)) (i % 8)) (seen-in reads b r2 none) ∙ sym (recorded-bit reads b (i % 8) i r2 at refl))
 
   pub reads-is : readsRecorded (t .rows) lo hi words x ≡ not (any (unseen e x xs) (sights e x))
   unfolding readsRecorded sights

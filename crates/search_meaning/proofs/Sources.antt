@@ -12,14 +12,14 @@ use Rattle.base.specs.Bits.{bit}
 use Rattle.base.proofs.Bools.{agree, split, clash, is-false, and-parts, and-both}
 use Rattle.base.proofs.Lists.{any-witness, any-member, any-map, any-keep, of-keep, in-keep}
 use Rattle.model.specs.Execution as model
-use Rattle.model.specs.Execution.{Instruction, Role, LV, RV, isStore, roles, numberOf, stores, operations}
+use Rattle.model.specs.Execution.{Instruction, Role, LV, RV, isStore, roles, numberOf, stores, operations, initialByte}
 use Rattle.model.specs.Rules.{accesses, byteWritten}
 use Rattle.model.specs.Accepted.{Accepted, Sound}
 use Rattle.model.proofs.Roles.{LV-role, RV-role, LV-store, RV-store, RV-few}
 use Rattle.record_decoded.specs.Kinds.{roleNumbered}
 use Rattle.record_decoded.specs.Decoded.{instructionAt, executionOf}
 use Rattle.record_decoded.proofs.RoleNumbers.{number-LV, role-LV, number-RV, role-RV}
-use Rattle.search_admit.specs.Rows.{writtenBits, writtenData, writtenWord, visibleAt, ownAt, covers, dataBit, writes}
+use Rattle.search_admit.specs.Rows.{writtenBits, writtenData, writtenWord, visibleAt, ownAt, covers, relative, dataBit, writes}
 use Rattle.search_reduction.proofs.Ownership.{each-in, is-store}
 use Rattle.search_meaning.proofs.Tables.{Tables, TablesMean}
 use Rattle.search_meaning.proofs.Owners.{role-in, owner-in, owner-is, number-is}
@@ -31,9 +31,9 @@ use Rattle.search_meaning.proofs.Words.{byte-is, Does}
 writes-role : (k : ℕ) → writes k ≡ true → (k ≡ 1 → ⊥) → 3 ≤ k
 writes-role k h other = split (leb 3 k) (λ l. leb-true 3 k l) (λ l. clash h (ap₂ _||_ (ne-eqb k 1 other) l))
 
-module _ {t : Tables} (h : TablesMean t) (accepted : Accepted (executionOf (t .execution))) where
+module _ {t : Tables} (h : TablesMean t) (accepted : Accepted (executionOf (t .bytes) (t .execution))) where
   abbrev e : model.Execution
-  e = executionOf (t .execution)
+  e = executionOf (t .bytes) (t .execution)
 
   abbrev instruction : ℕ → Instruction
   instruction i = instructionAt (t .execution .instructions) i
@@ -51,6 +51,10 @@ module _ {t : Tables} (h : TablesMean t) (accepted : Accepted (executionOf (t .e
 
     abbrev its-line : ℕ
     its-line = its .address / 8
+
+    -- bit k of a byte at b, relative to the initial byte
+    abbrev of : ℕ → Bool
+    of v = bit (relative v (initialByte e b)) k
 
     small : i < 64
     small = omega (arith, at)
@@ -70,12 +74,12 @@ module _ {t : Tables} (h : TablesMean t) (accepted : Accepted (executionOf (t .e
     -- where a bit of its line is one of its bytes', the line is one of eight
     covered : covers (t .execution) owner i ≡ true → its-line < 8
     unfolding covers instructionAt
-    covered c = omega (arith, accesses-within (t .execution) accepted owner _ here c .there, accepted .lines-few)
+    covered c = omega (arith, accesses-within (t .bytes) (t .execution) accepted owner _ here c .there, accepted .lines-few)
 
     bits-are : bit (writtenBits (t .rows) o) i ≡ (writes role && covers (t .execution) owner i)
     bits-are = h .rowed o low .writes-bits i small
 
-    data-are : bit (writtenData (t .rows) o) i ≡ (writes role && dataBit (t .execution) owner i)
+    data-are : bit (writtenData (t .rows) o) i ≡ (writes role && dataBit (t .bytes) (t .execution) owner i)
     data-are = h .rowed o low .writes-data i small
 
     abbrev wordAt : ℕ → ℕ
@@ -109,27 +113,27 @@ module _ {t : Tables} (h : TablesMean t) (accepted : Accepted (executionOf (t .e
           let (u1, u2) = and-parts (eqb (writtenWord (t .rows) o) c) (bit (writtenBits (t .rows) o) i) u in
           let (u3, u4) = and-parts (writes role) (covers (t .execution) owner i) (sym bits-are ∙ u2) in
           let (m1, m2) = matched u3 (covered u4) (eqb-true (writtenWord (t .rows) o) c u1) in
-          and-both m1 (sym (covers-is (t .execution) accepted owner b i (sym m2) at) ∙ u4))
+          and-both m1 (sym (covers-is (t .bytes) (t .execution) accepted owner b i (sym m2) at) ∙ u4))
           (λ u.
           let (u1, u2) = and-parts wanted (accesses its b) u in
           let (m1, m2) = match u1 in
-          let in-line = accesses-within (t .execution) accepted owner b here u2 in
-          let cover = covers-is (t .execution) accepted owner b i (in-line .one-line) at ∙ u2 in
+          let in-line = accesses-within (t .bytes) (t .execution) accepted owner b here u2 in
+          let cover = covers-is (t .bytes) (t .execution) accepted owner b i (in-line .one-line) at ∙ u2 in
           and-both (eq-eqb (writtenWord (t .rows) o) c (m2 (covered cover) (sym (in-line .one-line)))) (bits-are ∙ and-both m1 cover))
 
       leaves : hit ≡ false → (eqb (writtenWord (t .rows) o) c && bit (writtenData (t .rows) o) i) ≡ false
       unfolding dataBit
       leaves miss = is-false _ (λ u.
           let (u1, u2) = and-parts (eqb (writtenWord (t .rows) o) c) (bit (writtenData (t .rows) o) i) u in
-          let (u3, u4) = and-parts (writes role) (dataBit (t .execution) owner i) (sym data-are ∙ u2) in
+          let (u3, u4) = and-parts (writes role) (dataBit (t .bytes) (t .execution) owner i) (sym data-are ∙ u2) in
           let (u5, u6) = and-parts (covers (t .execution) owner i) _ u4 in
           clash (sym touches ∙ and-both u1 (bits-are ∙ and-both u3 u5)) miss)
 
-      puts : hit ≡ true → bit (writtenData (t .rows) o) i ≡ bit (byteWritten its b) k
+      puts : hit ≡ true → bit (writtenData (t .rows) o) i ≡ of (byteWritten its b)
       puts u =
           let (u1, u2) = and-parts wanted (accesses its b) u in
-          data-are ∙ ap (λ (v : Bool). v && dataBit (t .execution) owner i) (match u1 .0)
-          ∙ data-is (t .execution) accepted owner b i k (accesses-within (t .execution) accepted owner b here u2) u2 at bits
+          data-are ∙ ap (λ (v : Bool). v && dataBit (t .bytes) (t .execution) owner i) (match u1 .0)
+          ∙ data-is (t .bytes) (t .execution) accepted owner b i k (accesses-within (t .bytes) (t .execution) accepted owner b here u2) u2 at bits
 
     its-store : isStore (its .kind) ≡ true → List·Memᴰ its (stores e)
     unfolding stores
@@ -162,7 +166,7 @@ module _ {t : Tables} (h : TablesMean t) (accepted : Accepted (executionOf (t .e
         any-member _ (its-store (RV-store (e .processors) p (its .kind) (subst (λ (s : Role). List·Memᴰ s (roles (e .processors) (its .kind))) is-it its-role)))
         (and-both k2 (eq-eqb (numberOf its (RV p)) o (ap (numberOf its) (sym is-it) ∙ number-is h accepted o low))))
 
-    pub visible-does : Does (t .rows) visibly (visibleAt p (b / 8)) i k o
+    pub visible-does : Does (t .rows) visibly (visibleAt p (b / 8)) i of o
     visible-does = record {
       hit = eqb role (3 + p) && accesses its b;
       byte = byteWritten its b;
@@ -221,7 +225,7 @@ module _ {t : Tables} (h : TablesMean t) (accepted : Accepted (executionOf (t .e
         any-member _ (its-store (LV-store (e .processors) (its .kind) (subst (λ (s : Role). List·Memᴰ s (roles (e .processors) (its .kind))) is-it its-role)))
         (and-both k2 (and-both k4 (eq-eqb (numberOf its LV) o (ap (numberOf its) (sym is-it) ∙ number-is h accepted o low)))))
 
-    pub own-does : Does (t .rows) ownly (ownAt p (b / 8)) i k o
+    pub own-does : Does (t .rows) ownly (ownAt p (b / 8)) i of o
     own-does = record {
       hit = eqb role 1 && eqb (its .processor) p && accesses its b;
       byte = byteWritten its b;

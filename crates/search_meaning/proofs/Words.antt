@@ -48,28 +48,28 @@ unfolding lastByte
 last-below ws each [] d h = h
 last-below ws each (x ∷ xs) d h = last-below ws each xs (byteOf ws x d) (byte-below ws each x d h)
 
--- one operation does to bit i of word c what the list does to bit k of the byte
-pub record Does (rows : List ℕ) (ws : List (ℕ × ℕ)) (c i k x : ℕ) : Type 0 where
+-- one operation does to bit i of word c what the list does to a bit of the byte, which `of` gives
+pub record Does (rows : List ℕ) (ws : List (ℕ × ℕ)) (c i : ℕ) (of : ℕ → Bool) (x : ℕ) : Type 0 where
   pub hit : Bool
   pub byte : ℕ
   pub touches : (eqb (writtenWord rows x) c && bit (writtenBits rows x) i) ≡ hit
   pub leaves : hit ≡ false → (eqb (writtenWord rows x) c && bit (writtenData rows x) i) ≡ false
-  pub puts : hit ≡ true → bit (writtenData rows x) i ≡ bit byte k
+  pub puts : hit ≡ true → bit (writtenData rows x) i ≡ of byte
   pub gives : (d : ℕ) → byteOf ws x d ≡ cond hit byte d
 
-module _ {rows : List ℕ} {ws : List (ℕ × ℕ)} {c i k x : ℕ} (does : Does rows ws c i k x) where
-  word-step : (words : List ℕ) (d : ℕ) → length words ≡ 128 → c < 128 → bit (getD words c 0) i ≡ bit d k → bit (getD (wordsWith rows words x) c 0) i ≡ bit (byteOf ws x d) k
+module _ {rows : List ℕ} {ws : List (ℕ × ℕ)} {c i : ℕ} {of : ℕ → Bool} {x : ℕ} (does : Does rows ws c i of x) where
+  word-step : (words : List ℕ) (d : ℕ) → length words ≡ 128 → c < 128 → bit (getD words c 0) i ≡ of d → bit (getD (wordsWith rows words x) c 0) i ≡ of (byteOf ws x d)
   word-step words d long few same = go (ℕ-discrete c (writtenWord rows x))
     where
       at : ℕ
       at = writtenWord rows x
 
       -- what the operation makes of a bit
-      made : (b m w : Bool) → m ≡ does .hit → (does .hit ≡ false → w ≡ false) → (does .hit ≡ true → w ≡ bit (does .byte) k) → b ≡ bit d k
-          → ((b && not m) || w) ≡ bit (cond (does .hit) (does .byte) d) k
+      made : (b m w : Bool) → m ≡ does .hit → (does .hit ≡ false → w ≡ false) → (does .hit ≡ true → w ≡ of (does .byte)) → b ≡ of d
+          → ((b && not m) || w) ≡ of (cond (does .hit) (does .byte) d)
       made b m w p q r s = by (does .hit) p q r
         where
-          by : (h : Bool) → m ≡ h → (h ≡ false → w ≡ false) → (h ≡ true → w ≡ bit (does .byte) k) → ((b && not m) || w) ≡ bit (cond h (does .byte) d) k
+          by : (h : Bool) → m ≡ h → (h ≡ false → w ≡ false) → (h ≡ true → w ≡ of (does .byte)) → ((b && not m) || w) ≡ of (cond h (does .byte) d)
           by true p q r = rw p (none b ∙ r refl)
             where
               none : (u : Bool) → ((u && false) || w) ≡ w
@@ -81,7 +81,7 @@ module _ {rows : List ℕ} {ws : List (ℕ × ℕ)} {c i k x : ℕ} (does : Does
               kept true = refl
               kept false = refl
 
-      go : Dec (c ≡ at) → bit (getD (wordsWith rows words x) c 0) i ≡ bit (byteOf ws x d) k
+      go : Dec (c ≡ at) → bit (getD (wordsWith rows words x) c 0) i ≡ of (byteOf ws x d)
       go (yes q) =
           let here : eqb at c ≡ true = eq-eqb at c (sym q) in
           ap (λ (u : ℕ). bit u i) (ap (λ (j : ℕ). getD (wordsWith rows words x) j 0) q ∙ getD-set-same words at _ 0 (omega (arith, long)))
@@ -90,17 +90,17 @@ module _ {rows : List ℕ} {ws : List (ℕ × ℕ)} {c i k x : ℕ} (does : Does
           (sym (ap (λ (b : Bool). b && bit (writtenBits rows x) i) here) ∙ does .touches)
           (λ f. sym (ap (λ (b : Bool). b && bit (writtenData rows x) i) here) ∙ does .leaves f) (does .puts)
           (ap (λ (j : ℕ). bit (getD words j 0) i) (sym q) ∙ same)
-          ∙ ap (λ (u : ℕ). bit u k) (sym (does .gives d))
+          ∙ ap of (sym (does .gives d))
       go (no q) =
           let miss : does .hit ≡ false = sym (does .touches) ∙ ap (λ (b : Bool). b && bit (writtenBits rows x) i) (ne-eqb at c (λ z. q (sym z))) in
           ap (λ (u : ℕ). bit u i) (getD-set-other words at c _ 0 q) ∙ same
-          ∙ ap (λ (u : ℕ). bit u k) (sym (does .gives d ∙ ap (λ (b : Bool). cond b (does .byte) d) miss))
+          ∙ ap of (sym (does .gives d ∙ ap (λ (b : Bool). cond b (does .byte) d) miss))
 
 -- and so do the operations of a prefix, one after the other
-pub words-are : (rows : List ℕ) (ws : List (ℕ × ℕ)) (c i k : ℕ) → c < 128 → (xs : List ℕ) → ((x : ℕ) → List·Memᴰ x xs → Does rows ws c i k x)
-    → (words : List ℕ) (d : ℕ) → length words ≡ 128 → bit (getD words c 0) i ≡ bit d k → bit (getD (wordsFrom rows words xs) c 0) i ≡ bit (lastByte ws d xs) k
+pub words-are : (rows : List ℕ) (ws : List (ℕ × ℕ)) (c i : ℕ) (of : ℕ → Bool) → c < 128 → (xs : List ℕ) → ((x : ℕ) → List·Memᴰ x xs → Does rows ws c i of x)
+    → (words : List ℕ) (d : ℕ) → length words ≡ 128 → bit (getD words c 0) i ≡ of d → bit (getD (wordsFrom rows words xs) c 0) i ≡ of (lastByte ws d xs)
 unfolding wordsFrom lastByte
-words-are rows ws c i k few [] does words d long same = same
-words-are rows ws c i k few (x ∷ xs) does words d long same =
-    words-are rows ws c i k few xs (λ o m. does o (List·Memᴰ·tail m)) (wordsWith rows words x) (byteOf ws x d)
+words-are rows ws c i of few [] does words d long same = same
+words-are rows ws c i of few (x ∷ xs) does words d long same =
+    words-are rows ws c i of few xs (λ o m. does o (List·Memᴰ·tail m)) (wordsWith rows words x) (byteOf ws x d)
     (length-set words (writtenWord rows x) _ ∙ long) (word-step (does x (List·Memᴰ·head refl)) words d long few same)

@@ -26,7 +26,7 @@ use Rattle.search_walk.proofs.Search.{open-tells}
 use Rattle.search_resume.specs.Replays.{Replayed}
 
 -- the sets before any operation
-module _ {n : ℕ} (rows words : List ℕ) (few : n ≤ 128) (first : words ≡ firstWords rows) (lo hi : ℕ)
+module _ {n : ℕ} (rows words : List ℕ) (few : n ≤ 128) (first : words ≡ firstWords) (lo hi : ℕ)
     (able : (a : ℕ) → a < n → holds lo hi a ≡ enabled rows 0 0 words a) where
   abbrev none : List ℕ
   none = replicate 774 0
@@ -61,15 +61,15 @@ module _ {n : ℕ} (rows words : List ℕ) (few : n ≤ 128) (first : words ≡ 
         subst (λ (i : ℕ). enables made i a ≡ (not (stands made i a) && enabled rows (low made i) (high made i) (wordsAfter rows (take i position)) a)) (let z : 0 ≡ j = omega arith in z)
         (enables-first a ∙ able a l
         ∙ ap (λ (ws : List ℕ). enabled rows 0 0 ws a) first
-        ∙ ap₂ (λ (u v : ℕ). enabled rows u v (firstWords rows) a) (sym made-low) (sym made-high)
-        ∙ ap (λ (b : Bool). not b && enabled rows (low made 0) (high made 0) (firstWords rows) a) (sym (stood-none a)));
+        ∙ ap₂ (λ (u v : ℕ). enabled rows u v firstWords a) (sym made-low) (sym made-high)
+        ∙ ap (λ (b : Bool). not b && enabled rows (low made 0) (high made 0) firstWords a) (sym (stood-none a)));
     due = λ j a h l.
         subst (λ (i : ℕ). opens made i a ≡ (dueOf rows (take i position) (low made i) (high made i) a && enables made i a)) (let z : 0 ≡ j = omega arith in z)
         (opens-first a ∙ sym (enables-first a) ∙ ap (λ (b : Bool). b && enables made 0 a) (sym (due-first rows (low made 0) (high made 0) a)));
   }
 
 -- nothing stands yet
-pub kept-none : {n : ℕ} {rows entries levels words replaced : List ℕ} → n ≤ 128 → words ≡ firstWords rows → Levels n rows entries levels 0
+pub kept-none : {n : ℕ} {rows entries levels words replaced : List ℕ} → n ≤ 128 → words ≡ firstWords → Levels n rows entries levels 0
     → Kept n rows entries (replicate 128 255) levels words replaced 0
 unfolding wordsFrom
 kept-none {n} {rows} {entries} few w h = record {

@@ -5,14 +5,13 @@ ghost use mathlib.Core.List.{List, []};
 ghost use Prim.Native.Nat.{ℕ, _≤_};
 ghost use lib.ListN.{length, take};
 ghost use Rattle.base.specs.Lists.{distinct};
-ghost use Rattle.search_admit.specs.Rows.{tableLength, firstWords};
+ghost use Rattle.search_admit.specs.Rows.{firstWords};
 ghost use Rattle.search_enabled.specs.Affects.{Affecting};
 ghost use Rattle.search_walk.specs.Walks.{Levels, Kept};
 ghost use Rattle.search_resume.specs.Replays.{Replayed};
 use record_decoded::position::Position;
 use record_decoded::types::OperationNo;
 use record_decoded::types::wide;
-use search_admit::ROWS;
 use search_admit::TABLE;
 use search_admit::WORDS;
 use search_enabled::AFFECTED;
@@ -26,21 +25,9 @@ use search_walk::OPEN;
 use search_walk::SETS;
 use search_walk::enter;
 
-// The words of memory before any operation.
-pub fn first_words(rows: &[u64]) -> [u64; WORDS]
-    requires { ⌜ length (now rows) ≡ tableLength ⌝ }
-    ensures { λ r. ⌜ r ≡ firstWords (now (rows .entry)) ⌝ }
-{
-    let mut words = [0u64; WORDS];
-    for i in 0..WORDS {
-        words[i] = rows[ROWS + i];
-    }
-    words
-}
-
 // The sets before any operation.
 pub fn first_level(n: usize, rows: &[u64; TABLE], words: &[u64; WORDS]) -> [u64; LEVELS]
-    requires { ⌜ (n ≤ 128) × (now words ≡ firstWords (now rows)) ⌝ }
+    requires { ⌜ (n ≤ 128) × (now words ≡ firstWords) ⌝ }
     ensures { λ r. ⌜ ((position : List ℕ) → Levels n (now (rows .entry)) position r 0) ⌝ }
 {
     let enabled = first_enabled(n, rows, words);

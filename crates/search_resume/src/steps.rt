@@ -10,7 +10,6 @@ ghost use Rattle.search_walk.specs.Walks.{Kept};
 ghost use Rattle.record_decoded.specs.Positions.{positionOf};
 ghost use Rattle.search_resume.specs.Outcomes.{SearchedFrom, StepsMade};
 use crate::replay::first_level;
-use crate::replay::first_words;
 use crate::replay::replay;
 use record_decoded::position::Position;
 use relation_places::ABSENT;
@@ -150,7 +149,7 @@ pub fn search_from(
     let mut entries = given.entries;
     let length = given.length;
     let mut places = [ABSENT; Position::LIMIT];
-    let mut words = first_words(rows);
+    let mut words = [0u64; WORDS];
     let mut levels = first_level(n, rows, &words);
     let mut replaced = [0u64; Position::LIMIT];
     let consistent = replay(

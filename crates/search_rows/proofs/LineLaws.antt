@@ -17,8 +17,8 @@ use Rattle.base.proofs.Bools.{agree, split}
 use Rattle.base.proofs.Tests.{all-at}
 use Rattle.model.specs.Rules.{accesses}
 use Rattle.record_decoded.specs.declared.types.Execution.{Execution}
-use Rattle.record_decoded.specs.Decoded.{instructionAt}
-use Rattle.search_admit.specs.Rows.{covers, dataBit}
+use Rattle.record_decoded.specs.Decoded.{initialOf, instructionAt}
+use Rattle.search_admit.specs.Rows.{covers, relative, dataBit}
 use Rattle.search_sets.proofs.Bit.{has-or}
 use Rattle.search_sets.proofs.Laws.{lt-or-le, has-above, zero-has}
 
@@ -122,14 +122,11 @@ module _ (x : Execution) (w : ℕ) {address size : ℕ} (is-address : address �
       (agree (ltb (i / 8) (first % 8 + extent)) (ltb (8 * (first / 8) + i / 8) (first + extent)) (λ t. lt-ltb (8 * (first / 8) + i / 8) (first + extent) (omega (arith, ltb-true (i / 8) (first % 8 + extent) t)))
       (λ t. lt-ltb (i / 8) (first % 8 + extent) (omega (arith, ltb-true (8 * (first / 8) + i / 8) (first + extent) t))))
 
-  pub data-by : {bytes : List ℕ} → bytes ≡ x .instructions .bytes → (i : ℕ) → (leb (address % 8) (i / 8) && ltb (i / 8) (address % 8 + size) && bit (getD bytes (8 * w + (i / 8 - address % 8)) 0) (i % 8)) ≡ dataBit x w i
+  pub data-by : (bytes : List ℕ) {values : List ℕ} → values ≡ x .instructions .bytes → (i : ℕ)
+      → (leb (address % 8) (i / 8) && ltb (i / 8) (address % 8 + size)
+      && bit (relative (getD values (8 * w + (i / 8 - address % 8)) 0) (initialOf bytes (x .lines .count) (8 * (address / 8) + i / 8))) (i % 8)) ≡ dataBit bytes x w i
   unfolding dataBit
-  data-by {bytes} lent i =
-      ap (λ (own : List ℕ). leb (address % 8) (i / 8) && ltb (i / 8) (address % 8 + size) && bit (getD own (8 * w + (i / 8 - address % 8)) 0) (i % 8)) lent
-      ∙ ap₂ (λ (b : Bool) (a : ℕ). b && bit (getD (x .instructions .bytes) (8 * w + (i / 8 - a % 8)) 0) (i % 8)) (covers-by i) is-address
-
--- the bytes of a whole line
-pub whole-line : (initial : List ℕ) (line i : ℕ) → i < 64 → (leb 0 (i / 8) && ltb (i / 8) (0 + 8) && bit (getD initial (8 * line + (i / 8 - 0)) 0) (i % 8)) ≡ bit (getD initial (8 * line + i / 8) 0) (i % 8)
-whole-line initial line i h =
-    ap₂ (λ (b c : Bool). b && c && bit (getD initial (8 * line + (i / 8 - 0)) 0) (i % 8)) (le-leb 0 (i / 8) (omega arith)) (lt-ltb (i / 8) (0 + 8) (omega arith))
-    ∙ ap (λ (k : ℕ). bit (getD initial (8 * line + k) 0) (i % 8)) (omega arith)
+  data-by bytes {values} lent i =
+      ap (λ (own : List ℕ). leb (address % 8) (i / 8) && ltb (i / 8) (address % 8 + size)
+      && bit (relative (getD own (8 * w + (i / 8 - address % 8)) 0) (initialOf bytes (x .lines .count) (8 * (address / 8) + i / 8))) (i % 8)) lent
+      ∙ ap₂ (λ (b : Bool) (a : ℕ). b && bit (relative (getD (x .instructions .bytes) (8 * w + (i / 8 - a % 8)) 0) (initialOf bytes (x .lines .count) (8 * (a / 8) + i / 8))) (i % 8)) (covers-by i) is-address

@@ -60,21 +60,21 @@ wanted-bit true c word i h = h
 wanted-bit false c word i h = zero-has i
 
 -- an owner's access stays in its line
-pub owner-fits : {x : Execution} {t : Operations} {marks : List (List ℕ)} → Compiled x t marks → Accepted (executionOf x) → (o : ℕ) → o < operations (executionOf x)
-    → {owners roles kinds firsts processors addresses sizes bytes : List ℕ} → Lent x t owners roles kinds firsts processors addresses sizes bytes
+pub owner-fits : {bytes : List ℕ} {x : Execution} {t : Operations} {marks : List (List ℕ)} → Compiled bytes x t marks → Accepted (executionOf bytes x) → (o : ℕ) → o < operations (executionOf bytes x)
+    → {owners roles kinds firsts processors addresses sizes values : List ℕ} → Lent x t owners roles kinds firsts processors addresses sizes values
     → (w : ℕ) → w ≡ getD owners o 0 → (w < 40) × (getD addresses w 0 % 8 + getD sizes w 0 ≤ 8)
 unfolding instructionAt
-owner-fits {x} {t} {marks} h accepted o low {owners} {roles} {kinds} {firsts} {processors} {addresses} {sizes} {bytes} lent w is =
+owner-fits {bytes} {x} {t} {marks} h accepted o low {owners} {roles} {kinds} {firsts} {processors} {addresses} {sizes} {values} lent w is =
     let there : getD (t .owners) o 0 < x .instructions .count = owner-there h o (omega (arith, h .tabled .counts)) in
     let l : w < x .instructions .count = omega (arith, is ∙ ap (λ (own : List ℕ). getD own o 0) (lent .owners-are)) in
     let fits : getD (x .instructions .addresses) w 0 % 8 + getD (x .instructions .sizes) w 0 ≤ 8 =
-    fits-line (each-in (Sound (executionOf x .processors) (length (executionOf x .lines))) (accepted .sound) (numbered-in (record { execution = x; operations = t; marks = marks; rows = [] }) w l)) in (
-      omega (arith, few-instructions x accepted),
+    fits-line (each-in (Sound (executionOf bytes x .processors) (length (executionOf bytes x .lines))) (accepted .sound) (numbered-in (record { bytes = bytes; execution = x; operations = t; marks = marks; rows = [] }) w l)) in (
+      omega (arith, few-instructions bytes x accepted),
       subst (λ (n : ℕ). n ≤ 8) (ap₂ (λ (from long : List ℕ). getD from w 0 % 8 + getD long w 0) (sym (lent .addresses-are)) (sym (lent .sizes-are))) fits,
     )
 
-module _ {x : Execution} {t : Operations} {marks : List (List ℕ)} (h : Compiled x t marks) (accepted : Accepted (executionOf x)) (o : ℕ) (low : o < operations (executionOf x))
-    {owners roles kinds firsts processors addresses sizes bytes : List ℕ} (lent : Lent x t owners roles kinds firsts processors addresses sizes bytes) where
+module _ {bytes : List ℕ} {x : Execution} {t : Operations} {marks : List (List ℕ)} (h : Compiled bytes x t marks) (accepted : Accepted (executionOf bytes x)) (o : ℕ) (low : o < operations (executionOf bytes x))
+    {owners roles kinds firsts processors addresses sizes values : List ℕ} (lent : Lent x t owners roles kinds firsts processors addresses sizes values) where
   abbrev owner : ℕ
   owner = getD (t .owners) o 0
 
@@ -122,7 +122,7 @@ module _ {x : Execution} {t : Operations} {marks : List (List ℕ)} (h : Compile
       → ((a : ℕ) → a < 128 → holds (row 2) (row 3) a ≡ partnerOf (markAt marks w w) r kind first (x .processors) a)
       → ((a : ℕ) → a < 128 → holds (row 4) (row 5) a ≡ awaitedSome r kinds firsts processors w a)
       → ((a : ℕ) → a < 128 → holds (row 6) (row 7) a ≡ bypassSome r kinds firsts processors addresses w a)
-      → (bits written : ℕ) → ((i : ℕ) → i < 64 → bit bits i ≡ covers x w i) → ((i : ℕ) → i < 64 → bit written i ≡ dataBit x w i)
+      → (bits written : ℕ) → ((i : ℕ) → i < 64 → bit bits i ≡ covers x w i) → ((i : ℕ) → i < 64 → bit written i ≡ dataBit bytes x w i)
       → (writing : Bool) → writing ≡ writes r
       → row 8 ≡ cond writing bits 0 → row 9 ≡ cond writing written 0
       → (writes r ≡ true → row 10 ≡ cond (eqb r 1) (ownAt processor line) (visibleAt (r - 3) line))
@@ -130,20 +130,20 @@ module _ {x : Execution} {t : Operations} {marks : List (List ℕ)} (h : Compile
       → row 13 ≡ 8 * processor + line → row 14 ≡ 64 + 8 * processor + line
       → (own-rv lv : ℕ) → own-rv ≡ numberFrom first kind (RV processor) → lv ≡ numberFrom first kind LV
       → row 15 ≡ cond writing own-rv o → row 16 ≡ cond writing lv o
-      → RowOf x t marks o row
+      → RowOf x t marks o bytes row
 
   row-by-role : RowIs role
   unfolding instructionAt
   row-by-role row w first processor line kind iw isf isk ip il preds partners awaited bypasses bits written bits-are data-are writing wr r8 r9 r10 r11 r12 r13 r14 own-rv lv irv ilv r15 r16 = record {
-    preds-are = λ a l. preds a l ∙ linked-lent w a iw ∙ each-linked h o a ∙ preds-mean h accepted o a there ∙ ap (λ (n : ℕ). ltb a n && linked (executionOf x) (operationAt (x .instructions) t a) (operationAt (x .instructions) t o)) (h .tabled .counts);
+    preds-are = λ a l. preds a l ∙ linked-lent w a iw ∙ each-linked h o a ∙ preds-mean h accepted o a there ∙ ap (λ (n : ℕ). ltb a n && linked (executionOf bytes x) (operationAt (x .instructions) t a) (operationAt (x .instructions) t o)) (h .tabled .counts);
     partners-are = λ a l. partners a l ∙ ap₂ (λ (v f : ℕ). partnerOf (markAt marks v v) role kind f (x .processors) a) iw first-is ∙ ap (λ (k : Kind). partnerOf (markAt marks owner owner) role k (getD (x .instructions .firsts) owner 0) (x .processors) a) kind-is ∙ partner-means h accepted o there a;
     awaited-are = λ a l. awaited a l ∙ awaited-lent w a iw;
     bypasses-are = λ a l. bypasses a l ∙ bypass-lent w a iw;
     writes-bits = λ i l. ap (λ (v : ℕ). bit v i) r8 ∙ wanted-bit writing (covers x w i) bits i (bits-are i l) ∙ ap₂ (λ (b : Bool) (v : ℕ). b && covers x v i) wr iw;
-    writes-data = λ i l. ap (λ (v : ℕ). bit v i) r9 ∙ wanted-bit writing (dataBit x w i) written i (data-are i l) ∙ ap₂ (λ (b : Bool) (v : ℕ). b && dataBit x v i) wr iw;
+    writes-data = λ i l. ap (λ (v : ℕ). bit v i) r9 ∙ wanted-bit writing (dataBit bytes x w i) written i (data-are i l) ∙ ap₂ (λ (b : Bool) (v : ℕ). b && dataBit bytes x v i) wr iw;
     writes-word = λ u. r10 u ∙ ap₂ (λ (p l : ℕ). cond (eqb role 1) (ownAt p l) (visibleAt (role - 3) l)) processor-is line-is;
     reads-bits = λ i l. ap (λ (v : ℕ). bit v i) r11 ∙ wanted-bit (eqb role 0) (covers x w i) bits i (bits-are i l) ∙ ap (λ (v : ℕ). eqb role 0 && covers x v i) iw;
-    reads-data = λ i l. ap (λ (v : ℕ). bit v i) r12 ∙ wanted-bit (eqb role 0) (dataBit x w i) written i (data-are i l) ∙ ap (λ (v : ℕ). eqb role 0 && dataBit x v i) iw;
+    reads-data = λ i l. ap (λ (v : ℕ). bit v i) r12 ∙ wanted-bit (eqb role 0) (dataBit bytes x w i) written i (data-are i l) ∙ ap (λ (v : ℕ). eqb role 0 && dataBit bytes x v i) iw;
     reads-visible = λ u. r13 ∙ ap₂ visibleAt processor-is line-is;
     reads-own = λ u. r14 ∙ ap₂ ownAt processor-is line-is;
     own-is = r15 ∙ ap₂ (λ (b : Bool) (n : ℕ). cond b n o) wr (irv ∙ ap₂ (λ (f p : ℕ). numberFrom f kind (RV p)) first-is processor-is ∙ ap (λ (k : Kind). numberFrom (getD (x .instructions .firsts) owner 0) k (RV (getD (x .instructions .processors) owner 0))) kind-is);

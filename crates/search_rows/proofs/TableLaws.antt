@@ -13,37 +13,9 @@ use Rattle.record_decoded.specs.declared.types.Execution.{Execution}
 use Rattle.record_decoded.specs.Decoded.{executionOf}
 use Rattle.relation_links.specs.declared.operations.Operations.{Operations}
 use Rattle.relation_links.specs.Compiled.{Compiled}
-use Rattle.search_admit.specs.Rows.{field, firstWords, Initial, Bytes, RowOf, RowsMean}
+use Rattle.search_admit.specs.Rows.{field, Bytes, RowOf, RowsMean}
 use Rattle.search_sets.specs.Set.{holds}
 use Rattle.search_rows.specs.Puts.{Put}
-
--- the first words, by their place in the table
-first-at : (rows : List ℕ) (c : ℕ) → c < 128 → getD (firstWords rows) c 0 ≡ getD rows (2176 + c) 0
-first-at rows c l = getD-take 128 (drop 2176 rows) c 0 l ∙ getD-drop 2176 rows c 0
-
--- The invariant: the first c words are made.
-pub record Begun (x : Execution) (rows : List ℕ) (c : ℕ) : Type 0 where
-  pub few : c ≤ 128
-  pub long : length rows ≡ 2304
-  pub words : (k i : ℕ) → k < c → i < 64 → bit (getD rows (2176 + k) 0) i ≡ bit (getD (x .lines .initial) (8 * (k % 8) + i / 8) 0) (i % 8)
-
-pub begun-none : {x : Execution} {rows : List ℕ} → length rows ≡ 2304 → Begun x rows 0
-begun-none l = record { few = omega arith; long = l; words = λ k i h s. absurd (omega arith) }
-
-pub begun-more : {x : Execution} {rows : List ℕ} {c : ℕ} → Begun x rows c → c < 128 → (word : ℕ)
-    → ((i : ℕ) → i < 64 → bit word i ≡ bit (getD (x .lines .initial) (8 * (c % 8) + i / 8) 0) (i % 8)) → Begun x (set rows (2176 + c) word) (c + 1)
-begun-more {x} {rows} {c} inv l word is = record {
-  few = omega arith;
-  long = length-set rows (2176 + c) word ∙ inv .long;
-  words = λ k i h s. go k i h s (ℕ-discrete k c);
-}
-  where
-    go : (k i : ℕ) → k < c + 1 → i < 64 → Dec (k ≡ c) → bit (getD (set rows (2176 + c) word) (2176 + k) 0) i ≡ bit (getD (x .lines .initial) (8 * (k % 8) + i / 8) 0) (i % 8)
-    go k i h s (yes q) = rw q (ap (λ (w : ℕ). bit w i) (getD-set-same rows (2176 + c) word 0 (omega (arith, inv .long))) ∙ is i s)
-    go k i h s (no q) = ap (λ (w : ℕ). bit w i) (getD-set-other rows (2176 + c) (2176 + k) word 0 (λ e. q (omega arith))) ∙ inv .words k i (omega arith) s
-
-pub begun : {x : Execution} {rows : List ℕ} {c : ℕ} → Begun x rows c → 128 ≤ c → Initial x (firstWords rows)
-begun {x} {rows} inv h c i l s = ap (λ (w : ℕ). bit w i) (first-at rows c l) ∙ inv .words c i (omega arith) s
 
 -- a row put in, one word after the other
 pub put-none : {before row : List ℕ} {at : ℕ} → Put before row at 0 before
@@ -68,7 +40,7 @@ pub put-done : {before row : List ℕ} {at j : ℕ} {after : List ℕ} → Put b
 put-done {before} {row} {at} {j} {after} inv e = subst (λ (k : ℕ). Put before row at k after) e inv
 
 -- the same row by another name
-row-same : {x : Execution} {t : Operations} {marks : List (List ℕ)} {o : ℕ} (row row' : ℕ → ℕ) → ((f : ℕ) → f < 17 → row' f ≡ row f) → RowOf x t marks o row → RowOf x t marks o row'
+row-same : {bytes : List ℕ} {x : Execution} {t : Operations} {marks : List (List ℕ)} {o : ℕ} (row row' : ℕ → ℕ) → ((f : ℕ) → f < 17 → row' f ≡ row f) → RowOf x t marks o bytes row → RowOf x t marks o bytes row'
 row-same row row' e r = record {
   preds-are = λ a l. ap₂ (λ (u v : ℕ). holds u v a) (e 0 (omega arith)) (e 1 (omega arith)) ∙ r .preds-are a l;
   partners-are = λ a l. ap₂ (λ (u v : ℕ). holds u v a) (e 2 (omega arith)) (e 3 (omega arith)) ∙ r .partners-are a l;
@@ -86,37 +58,34 @@ row-same row row' e r = record {
 }
 
 -- The invariant: the rows of the first o operations are in.
-pub record Filled (x : Execution) (t : Operations) (marks : List (List ℕ)) (n : ℕ) (rows : List ℕ) (o : ℕ) : Type 0 where
+pub record Filled (bytes : List ℕ) (x : Execution) (t : Operations) (marks : List (List ℕ)) (n : ℕ) (rows : List ℕ) (o : ℕ) : Type 0 where
   pub few : o ≤ n
-  pub long : length rows ≡ 2304
-  pub starts : Initial x (firstWords rows)
-  pub rowed : (k : ℕ) → k < o → RowOf x t marks k (λ f. field rows f k)
+  pub long : length rows ≡ 2176
+  pub rowed : (k : ℕ) → k < o → RowOf x t marks k bytes (λ f. field rows f k)
 
-pub filled-none : {x : Execution} {t : Operations} {marks : List (List ℕ)} {n : ℕ} {rows : List ℕ} → length rows ≡ 2304 → Initial x (firstWords rows) → Filled x t marks n rows 0
-filled-none l s = record { few = omega arith; long = l; starts = s; rowed = λ k h. absurd (omega arith) }
+pub filled-none : {bytes : List ℕ} {x : Execution} {t : Operations} {marks : List (List ℕ)} {n : ℕ} {rows : List ℕ} → length rows ≡ 2176 → Filled bytes x t marks n rows 0
+filled-none l = record { few = omega arith; long = l; rowed = λ k h. absurd (omega arith) }
 
-pub filled-more : {x : Execution} {t : Operations} {marks : List (List ℕ)} {n : ℕ} {rows : List ℕ} {o : ℕ} → Filled x t marks n rows o → o < n → n ≤ 128 → (row : List ℕ)
-    → RowOf x t marks o (λ f. getD row f 0) → {after : List ℕ} → Put rows row (17 * o) 17 after → Filled x t marks n after (o + 1)
-filled-more {x} {t} {marks} {n} {rows} {o} inv l few row made {after} put = record {
+pub filled-more : {bytes : List ℕ} {x : Execution} {t : Operations} {marks : List (List ℕ)} {n : ℕ} {rows : List ℕ} {o : ℕ} → Filled bytes x t marks n rows o → o < n → n ≤ 128 → (row : List ℕ)
+    → RowOf x t marks o bytes (λ f. getD row f 0) → {after : List ℕ} → Put rows row (17 * o) 17 after → Filled bytes x t marks n after (o + 1)
+filled-more {bytes} {x} {t} {marks} {n} {rows} {o} inv l few row made {after} put = record {
   few = omega arith;
   long = put .long ∙ inv .long;
-  starts = λ c i h s. ap (λ (w : ℕ). bit w i) (first-at after c h ∙ put .old (2176 + c) (inr (omega arith)) ∙ sym (first-at rows c h)) ∙ inv .starts c i h s;
   rowed = λ k h. go k h (decLt k o);
 }
   where
-    go : (k : ℕ) → k < o + 1 → Dec (k < o) → RowOf x t marks k (λ f. field after f k)
+    go : (k : ℕ) → k < o + 1 → Dec (k < o) → RowOf x t marks k bytes (λ f. field after f k)
     go k h (yes m) = row-same (λ f. field rows f k) (λ f. field after f k) (λ f s. put .old (17 * k + f) (inl (omega arith))) (inv .rowed k m)
     go k h (no m) =
         let e : o ≡ k = omega arith in
-        subst (λ (j : ℕ). RowOf x t marks j (λ f. field after f j)) e (row-same (λ f. getD row f 0) (λ f. field after f o) (λ f s. put .new f s) made)
+        subst (λ (j : ℕ). RowOf x t marks j bytes (λ f. field after f j)) e (row-same (λ f. getD row f 0) (λ f. field after f o) (λ f s. put .new f s) made)
 
-pub filled : {x : Execution} {t : Operations} {marks : List (List ℕ)} {n : ℕ} {rows : List ℕ} {o : ℕ} → Filled x t marks n rows o → n ≤ o → Compiled x t marks → n ≡ operations (executionOf x)
-    → Bytes (x .instructions .bytes) → Bytes (x .lines .initial) → RowsMean x t marks rows
-filled {x} {t} {marks} {n} {rows} {o} inv h compiled count b c = record {
+pub filled : {bytes : List ℕ} {x : Execution} {t : Operations} {marks : List (List ℕ)} {n : ℕ} {rows : List ℕ} {o : ℕ} → Filled bytes x t marks n rows o → n ≤ o → Compiled bytes x t marks → n ≡ operations (executionOf bytes x)
+    → Bytes (x .instructions .bytes) → Bytes bytes → RowsMean bytes x t marks rows
+filled {bytes} {x} {t} {marks} {n} {rows} {o} inv h compiled count b c = record {
   compiled = compiled;
   rowed = λ k l. inv .rowed k (omega arith);
   whole = inv .long;
-  starts = inv .starts;
   data-bytes = b;
   initial-bytes = c;
 }

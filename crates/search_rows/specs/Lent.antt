@@ -5,7 +5,7 @@ use mathlib.Core.List.{List}
 use Rattle.record_decoded.specs.declared.types.Execution.{Execution}
 use Rattle.relation_links.specs.declared.operations.Operations.{Operations}
 
-pub record Lent (x : Execution) (t : Operations) (owners roles kinds firsts processors addresses sizes bytes : List ℕ) : Type 0 where
+pub record Lent (x : Execution) (t : Operations) (owners roles kinds firsts processors addresses sizes values : List ℕ) : Type 0 where
   pub owners-are : owners ≡ t .owners
   pub roles-are : roles ≡ t .roles
   pub kinds-are : kinds ≡ x .instructions .kinds
@@ -13,4 +13,4 @@ pub record Lent (x : Execution) (t : Operations) (owners roles kinds firsts proc
   pub processors-are : processors ≡ x .instructions .processors
   pub addresses-are : addresses ≡ x .instructions .addresses
   pub sizes-are : sizes ≡ x .instructions .sizes
-  pub bytes-are : bytes ≡ x .instructions .bytes
+  pub values-are : values ≡ x .instructions .bytes

@@ -11,7 +11,7 @@ ghost use Rattle.relation_links.specs.Compiled.{Compiled};
 ghost use Rattle.search_admit.specs.Rows.{writes, visibleAt, ownAt, RowOf};
 ghost use Rattle.search_rows.specs.Lent.{Lent};
 use crate::line::bits_from;
-use crate::line::data_from;
+use crate::line::relative_from;
 use record_decoded::kind::ROLE_LV;
 use record_decoded::kind::ROLE_R;
 use record_decoded::kind::ROLE_RV;
@@ -91,8 +91,9 @@ fn word_of(role: u8, processor: usize, line: usize) -> usize
     visible_at(wide(role - ROLE_RV), line)
 }
 
-// The row of operation o, by the arrays of the operations and the instructions, that are lent for all rows.
-pub fn row_of<'a>(
+// The row of operation o, by the record and the arrays of the operations and the instructions, that are lent for all rows.
+pub fn row_of<'a, 'b>(
+    bytes: &'b [u8],
     x: Execution,
     t: Operations,
     marks: &'a [[u16; MOST_INSTRUCTIONS]; MOST_INSTRUCTIONS],
@@ -103,13 +104,14 @@ pub fn row_of<'a>(
     processors: &'a [u8; MOST_INSTRUCTIONS],
     addresses: &'a [u8; MOST_INSTRUCTIONS],
     sizes: &'a [u8; MOST_INSTRUCTIONS],
-    bytes: &'a [u8; DATA_STRIDE * MOST_INSTRUCTIONS],
+    values: &'a [u8; DATA_STRIDE * MOST_INSTRUCTIONS],
     o: OperationNo,
 ) -> [u64; ROW]
-    requires { ⌜ Compiled x t (now marks) × Accepted (executionOf x) × (o .0 < operations (executionOf x)) × Lent x t (now owners) (now roles) (now kinds) (now firsts) (now processors) (now addresses) (now sizes) (now bytes) ⌝ }
-    ensures { λ r. ⌜ RowOf x t (now (marks .entry)) (o .0) (λ (f : ℕ). getD r f 0) ⌝ }
+    requires { ⌜ Compiled (now bytes) x t (now marks) × Accepted (executionOf (now bytes) x) × (o .0 < operations (executionOf (now bytes) x)) × Lent x t (now owners) (now roles) (now kinds) (now firsts) (now processors) (now addresses) (now sizes) (now values) ⌝ }
+    ensures { λ r. ⌜ RowOf x t (now (marks .entry)) (o .0) (now (bytes .entry)) (λ (f : ℕ). getD r f 0) ⌝ }
 {
     let every = x.processors;
+    let lines = x.lines;
     let n = x.instructions.count;
     let number = o.0;
     let w = wide(owners[number]);
@@ -143,7 +145,7 @@ pub fn row_of<'a>(
         role,
     );
     let bits = bits_from(place, size);
-    let data = data_from(bytes, InstructionNo(w), place, size);
+    let data = relative_from(bytes, lines.count, values, InstructionNo(w), address, size);
     let writing = is_writing(role);
     let reading = role == ROLE_R;
     let written_bits = wanted(writing, bits);

@@ -1,13 +1,12 @@
-// All rows, and behind them the words of memory before any operation.
+// All rows.
 ghost use mathlib.Core.Path.{_≡_};
 ghost use Prim.Native.Nat.{_*_, _<_};
 ghost use lib.ListN.{length};
 ghost use Rattle.model.specs.Accepted.{Accepted};
 ghost use Rattle.record_decoded.specs.Decoded.{executionOf};
 ghost use Rattle.relation_links.specs.Compiled.{Compiled};
-ghost use Rattle.search_admit.specs.Rows.{rowLength, tableLength, firstWords, Initial, Bytes, RowsMean};
+ghost use Rattle.search_admit.specs.Rows.{rowLength, tableLength, Bytes, RowsMean};
 ghost use Rattle.search_rows.specs.Puts.{Put};
-use crate::line::initial_word;
 use crate::line::known_bytes;
 use crate::row::row_of;
 use record_decoded::types::Execution;
@@ -15,19 +14,7 @@ use record_decoded::types::MOST_INSTRUCTIONS;
 use record_decoded::types::OperationNo;
 use relation_links::operations::Operations;
 use search_admit::ROW;
-use search_admit::ROWS;
 use search_admit::TABLE;
-use search_admit::WORDS;
-
-// Puts the first words in: the initial bytes of each line, for each processor and each kind of word.
-fn put_first(rows: &mut [u64; TABLE], x: Execution)
-    requires { ⌜ length (now rows) ≡ tableLength ⌝ }
-    ensures { λ _. ⌜ (length (now (rows .exit)) ≡ tableLength) × Initial x (firstWords (now (rows .exit))) ⌝ }
-{
-    for c in 0..WORDS {
-        rows[ROWS + c] = initial_word(x.lines, c % 8);
-    }
-}
 
 // Puts the row of an operation in.
 fn put_row(rows: &mut [u64], o: OperationNo, row: &[u64])
@@ -42,24 +29,22 @@ fn put_row(rows: &mut [u64], o: OperationNo, row: &[u64])
 
 // All data bytes are below 256. Nothing is computed: this is for proofs.
 fn known_data(x: Execution)
-    ensures { λ _. ⌜ Bytes (x .instructions .bytes) × Bytes (x .lines .initial) ⌝ }
+    ensures { λ _. ⌜ Bytes (x .instructions .bytes) ⌝ }
 {
     let is = x.instructions;
-    let bytes = is.bytes;
-    known_bytes(&bytes);
-    let lines = x.lines;
-    let initial = lines.initial;
-    known_bytes(&initial);
+    let values = is.bytes;
+    known_bytes(&values);
 }
 
 // What is compiled of an execution.
 pub fn rows_of(
+    bytes: &[u8],
     x: Execution,
     t: Operations,
     marks: &[[u16; MOST_INSTRUCTIONS]; MOST_INSTRUCTIONS],
 ) -> [u64; TABLE]
-    requires { ⌜ Compiled x t (now marks) × Accepted (executionOf x) ⌝ }
-    ensures { λ r. ⌜ RowsMean x t (now (marks .entry)) r ⌝ }
+    requires { ⌜ Compiled (now bytes) x t (now marks) × Accepted (executionOf (now bytes) x) ⌝ }
+    ensures { λ r. ⌜ RowsMean (now (bytes .entry)) x t (now (marks .entry)) r ⌝ }
 {
     let n = t.count;
     let owners = t.owners;
@@ -70,11 +55,11 @@ pub fn rows_of(
     let processors = is.processors;
     let addresses = is.addresses;
     let sizes = is.sizes;
-    let bytes = is.bytes;
+    let values = is.bytes;
     let mut rows = [0u64; TABLE];
-    put_first(&mut rows, x);
     for o in 0..n {
         let row = row_of(
+            bytes,
             x,
             t,
             marks,
@@ -85,11 +70,12 @@ pub fn rows_of(
             &processors,
             &addresses,
             &sizes,
-            &bytes,
+            &values,
             OperationNo(o),
         );
         put_row(&mut rows, OperationNo(o), &row);
     }
     known_data(x);
+    known_bytes(bytes);
     rows
 }

@@ -81,7 +81,7 @@ module _ {rows position words replaced : List ℕ} {k : ℕ} (r : Remembered row
   remembered-less j last l is shorter = record {
     now-are =
         ap (λ (ws : List ℕ). set ws (writtenWord rows last) (getD replaced j 0))
-        (r .now-are ∙ ap (wordsAfter rows) shorter ∙ words-more rows (firstWords rows) (take j position) last)
+        (r .now-are ∙ ap (wordsAfter rows) shorter ∙ words-more rows firstWords (take j position) last)
         ∙ ap (set (wordsWith rows (wordsAfter rows (take j position)) last) (writtenWord rows last))
         (r .were j l ∙ ap (λ (o : ℕ). getD (wordsAfter rows (take j position)) (writtenWord rows o) 0) (sym is))
         ∙ restored (wordsAfter rows (take j position)) (writtenWord rows last) _;
@@ -94,7 +94,7 @@ module _ {rows position words replaced : List ℕ} {k : ℕ} (r : Remembered row
   remembered-more x whole full few = record {
     now-are =
         ap (λ (ws : List ℕ). wordsWith rows ws x) (r .now-are)
-        ∙ sym (words-more rows (firstWords rows) (take k position) x)
+        ∙ sym (words-more rows firstWords (take k position) x)
         ∙ ap (wordsAfter rows) (sym (one-more position k x (omega arith)));
     were = λ j h. go j h (ℕ-discrete j k);
   }
@@ -200,7 +200,7 @@ module _ {n : ℕ} {rows position levels : List ℕ} {k : ℕ} (was : Levels n r
 
   -- the words behind one entry more
   words-then : wordsAfter rows (take (k + 1) position') ≡ wordsWith rows (wordsAfter rows (take k position)) x
-  words-then = ap (wordsAfter rows) (one-more position k x room) ∙ words-more rows (firstWords rows) (take k position) x
+  words-then = ap (wordsAfter rows) (one-more position k x room) ∙ words-more rows firstWords (take k position) x
 
   pub levels-more : Levels n rows position' levels' (k + 1)
   levels-more = record {

@@ -22,10 +22,14 @@ add-result : tie.Need-add-result
 add-result c = search needs
 
 returns : tie.Need-returns
-returns c = sym (ap checkNumber (c .before .before .read .ensures ∙ ap (λ t. answerMeant t (c .before .before .read .result .execution)) (c .enum-told .given .1)))
+returns c =
+    let reading = c .before .before .read in
+    sym (ap checkNumber (reading .ensures ∙ ap (λ t. answerMeant (c .before .before .before .before .args .bytes .now) t (reading .result .execution)) (c .enum-told .given .1)))
 
 returns-2 : tie.Need-returns-2
-returns-2 c = sym (ap checkNumber (c .before .before .before .read .ensures ∙ ap (λ t. answerMeant t (c .before .before .before .read .result .execution)) (c .before .answer .given .1)))
+returns-2 c =
+    let reading = c .before .before .before .read in
+    sym (ap checkNumber (reading .ensures ∙ ap (λ t. answerMeant (c .before .before .before .before .before .args .bytes .now) t (reading .result .execution)) (c .before .answer .given .1)))
 
 pub oglindesh-check-spec : {M : Type 1} → statement M
 oglindesh-check-spec =

@@ -16,8 +16,9 @@ enum-told c = search needs
 
 judge-order-requires : tie.Need-judge-order-requires
 judge-order-requires c κs =
+    let bytes = c .before .before .before .before .before .args .bytes .now in
     let r = c .before .before .read .result .execution in
-    read-accepted (c .before .before .before .before .before .args .bytes .now) (executionOf r) (c .before .before .read .ensures ∙ ap (λ t. answerMeant t r) (c .enum-told .given .1))
+    read-accepted bytes (executionOf bytes r) (c .before .before .read .ensures ∙ ap (λ t. answerMeant bytes t r) (c .enum-told .given .1))
 
 enum-known-answer : tie.Need-enum-known-answer
 enum-known-answer c = search needs
@@ -26,13 +27,13 @@ returns : tie.Need-returns
 returns c =
     let a = c .before .before .before .before .before .before .args in
     let r = c .before .before .before .read .result .execution in
-    c .judge-order .ensures ∙ judge-accepted (a .bytes .now) (a .order .now) (executionOf r) (c .before .before .before .read .ensures ∙ ap (λ t. answerMeant t r) (c .before .enum-told .given .1))
+    c .judge-order .ensures ∙ judge-accepted (a .bytes .now) (a .order .now) (executionOf (a .bytes .now) r) (c .before .before .before .read .ensures ∙ ap (λ t. answerMeant (a .bytes .now) t r) (c .before .enum-told .given .1))
 
 returns-2 : tie.Need-returns-2
 returns-2 c =
     let a = c .before .before .before .before .before .before .args in
     let r = c .before .before .before .read .result .execution in
-    judge-refused (a .bytes .now) (a .order .now) _ (c .before .before .before .read .ensures ∙ ap (λ t. answerMeant t r) (c .before .answer .given .1))
+    judge-refused (a .bytes .now) (a .order .now) _ (c .before .before .before .read .ensures ∙ ap (λ t. answerMeant (a .bytes .now) t r) (c .before .answer .given .1))
 
 pub judge-spec : {M : Type 1} → statement M
 judge-spec =

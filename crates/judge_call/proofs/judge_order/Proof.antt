@@ -13,36 +13,39 @@ use Rattle.judge_call.proofs.judge_order.Tie as tie
 
 operations-of-requires : tie.Need-operations-of-requires
 operations-of-requires c κs =
-    let x = c .before .args .x in
-    let a = c .before .pre in
-    ((few-processors x a, few-instructions x a, few-operations x a), consecutive-here x a)
+    let bytes = c .before .before .args .bytes .now in
+    let x = c .before .before .args .x in
+    let a = c .before .before .pre in
+    ((few-processors bytes x a, few-instructions bytes x a, few-operations bytes x a), consecutive-here bytes x a)
 
 returns : tie.Need-returns
 returns c =
-    let a = c .before .before .before .args in
-    judged-16 (executionOf (a .x)) (a .order .now) _ (count-is (a .x) _ (c .before .operations-of .ensures .counts)) (c .if1 .taken)
+    let a = c .before .before .before .before .args in
+    judged-16 (executionOf (a .bytes .now) (a .x)) (a .order .now) _ (count-is (a .bytes .now) (a .x) _ (c .before .operations-of .ensures .counts)) (c .if1 .taken)
 
 place-all-requires : tie.Need-place-all-requires
-place-all-requires c κs = omega (arith, c .before .operations-of .ensures .counts, few-operations (c .before .before .before .args .x) (c .before .before .before .pre))
+place-all-requires c κs = omega (arith, c .before .operations-of .ensures .counts, few-operations (c .before .before .before .before .args .bytes .now) (c .before .before .before .before .args .x) (c .before .before .before .before .pre))
 
 returns-2 : tie.Need-returns-2
 returns-2 c =
-    let a = c .before .before .before .before .before .before .args in
-    judged-17 (executionOf (a .x)) (a .order .now) _ (count-is (a .x) _ (c .before .before .before .before .operations-of .ensures .counts)) (c .before .before .before .if1 .left)
+    let a = c .before .before .before .before .before .before .before .args in
+    judged-17 (executionOf (a .bytes .now) (a .x)) (a .order .now) _ (count-is (a .bytes .now) (a .x) _ (c .before .before .before .before .operations-of .ensures .counts)) (c .before .before .before .if1 .left)
     (sym (c .before .before .place-all .ensures .told) ∙ not-true _ (c .if2 .taken))
 
 all-marks-requires : tie.Need-all-marks-requires
 all-marks-requires c κs =
-    let x = c .before .before .before .before .before .before .before .args .x in
-    let a = c .before .before .before .before .before .before .before .pre in
-    (few-instructions x a, few-lines x a, few-pairs x a)
+    let bytes = c .before .before .before .before .before .before .before .before .args .bytes .now in
+    let x = c .before .before .before .before .before .before .before .before .args .x in
+    let a = c .before .before .before .before .before .before .before .before .pre in
+    (few-instructions bytes x a, few-lines bytes x a, few-pairs bytes x a)
 
 lowest-broken-requires : tie.Need-lowest-broken-requires
 lowest-broken-requires c κs =
-    let x = c .before .before .before .before .before .before .before .before .before .before .args .x in
-    let a = c .before .before .before .before .before .before .before .before .before .before .pre in
+    let bytes = c .before .before .before .before .before .before .before .before .before .before .before .args .bytes .now in
+    let x = c .before .before .before .before .before .before .before .before .before .before .before .args .x in
+    let a = c .before .before .before .before .before .before .before .before .before .before .before .pre in
     let t = c .before .before .before .before .before .before .before .before .operations-of .ensures in
-    ((few-instructions x a, few-lines x a, few-processors x a, omega (arith, t .counts, few-operations x a)), compiled x t (c .before .before .all-marks .ensures))
+    ((few-instructions bytes x a, few-lines bytes x a, few-processors bytes x a, omega (arith, t .counts, few-operations bytes x a)), compiled bytes x t (c .before .before .all-marks .ensures bytes))
 
 enum-told : tie.Need-enum-told
 enum-told c = search needs
@@ -52,16 +55,16 @@ enum-known-lowest c = search needs
 
 returns-3 : tie.Need-returns-3
 returns-3 c =
-    let a = c .before .before .before .before .before .before .before .before .before .before .before .before .before .args in
+    let a = c .before .before .before .before .before .before .before .before .before .before .before .before .before .before .args in
     let distinct = not-false _ (c .before .before .before .before .before .before .before .if2 .left) in
-    judged-rules (executionOf (a .x)) (a .order .now) _ (count-is (a .x) _ (c .before .before .before .before .before .before .before .before .before .before .before .operations-of .ensures .counts)) (c .before .before .before .before .before .before .before .before .before .before .if1 .left) (sym (c .before .before .before .before .before .before .before .before .before .place-all .ensures .told) ∙ distinct) _
+    judged-rules (executionOf (a .bytes .now) (a .x)) (a .order .now) _ (count-is (a .bytes .now) (a .x) _ (c .before .before .before .before .before .before .before .before .before .before .before .operations-of .ensures .counts)) (c .before .before .before .before .before .before .before .before .before .before .if1 .left) (sym (c .before .before .before .before .before .before .before .before .before .place-all .ensures .told) ∙ distinct) _
     (ap lowestMeant (sym (c .enum-told .given .1)) ∙ c .before .before .lowest-broken .ensures _ (a .order .now) (c .before .before .before .before .before .before .before .before .before .place-all .ensures .places distinct))
 
 returns-4 : tie.Need-returns-4
 returns-4 c =
-    let a = c .before .before .before .before .before .before .before .before .before .before .before .before .before .before .args in
+    let a = c .before .before .before .before .before .before .before .before .before .before .before .before .before .before .before .args in
     let distinct = not-false _ (c .before .before .before .before .before .before .before .before .if2 .left) in
-    judged-rules (executionOf (a .x)) (a .order .now) _ (count-is (a .x) _ (c .before .before .before .before .before .before .before .before .before .before .before .before .operations-of .ensures .counts)) (c .before .before .before .before .before .before .before .before .before .before .before .if1 .left) (sym (c .before .before .before .before .before .before .before .before .before .before .place-all .ensures .told) ∙ distinct) _
+    judged-rules (executionOf (a .bytes .now) (a .x)) (a .order .now) _ (count-is (a .bytes .now) (a .x) _ (c .before .before .before .before .before .before .before .before .before .before .before .before .operations-of .ensures .counts)) (c .before .before .before .before .before .before .before .before .before .before .before .if1 .left) (sym (c .before .before .before .before .before .before .before .before .before .before .place-all .ensures .told) ∙ distinct) _
     (ap lowestMeant (sym (c .before .lowest .given .1)) ∙ c .before .before .before .lowest-broken .ensures _ (a .order .now) (c .before .before .before .before .before .before .before .before .before .before .place-all .ensures .places distinct))
 
 pub judge-order-spec : {M : Type 1} → statement M

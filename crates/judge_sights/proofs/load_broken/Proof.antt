@@ -14,10 +14,10 @@ use Rattle.judge_sights.proofs.load_broken.Statement.{statement}
 use Rattle.judge_sights.proofs.load_broken.Tie as tie
 
 abbrev Inv-loop : tie.InvT-loop
-Inv-loop x places i at size k₀ k = (size ≡ getD (x .instructions .sizes) (i .0) 0) × (size < 256) × NoneYet size (sightBroken x places (i .0)) k
+Inv-loop bytes x places i at size k₀ k = (size ≡ getD (x .instructions .sizes) (i .0) 0) × (size < 256) × NoneYet size (sightBroken bytes x places (i .0)) k
 
 abbrev μ-loop : tie.MeasureT-loop
-μ-loop x places i at size k₀ k = size - k
+μ-loop bytes x places i at size k₀ k = size - k
 
 array-read-kind-of : tie.Need-array-read-kind-of Inv-loop μ-loop
 array-read-kind-of c = search needs
@@ -30,8 +30,8 @@ is-load-requires c κs = search needs
 
 returns : tie.Need-returns Inv-loop μ-loop
 returns c =
-    let a = c .before .before .before .before .before .args in
-    load-none (a .x) (a .places .now) (a .i .0) (meant (c .before .before .kind-of .result)) (c .before .before .kind-of .ensures)
+    let a = c .before .before .before .before .before .before .args in
+    load-none (a .bytes .now) (a .x) (a .places .now) (a .i .0) (meant (c .before .before .kind-of .result)) (c .before .before .kind-of .ensures)
     (sym (c .before .is-load .ensures) ∙ not-true _ (c .if1 .taken))
 
 size-of-requires : tie.Need-size-of-requires Inv-loop μ-loop
@@ -45,8 +45,8 @@ sight-broken-requires c κs = search needs
 
 returns-2 : tie.Need-returns-2 Inv-loop μ-loop
 returns-2 c =
-    let a = c .before .before .before .before .before .before .before .before .before .before .args in
-    load-is (a .x) (a .places .now) (a .i .0) (meant (c .before .before .before .before .before .before .before .kind-of .result))
+    let a = c .before .before .before .before .before .before .before .before .before .before .before .args in
+    load-is (a .bytes .now) (a .x) (a .places .now) (a .i .0) (meant (c .before .before .before .before .before .before .before .kind-of .result))
     (c .before .before .before .before .before .before .before .kind-of .ensures)
     (sym (c .before .before .before .before .before .before .is-load .ensures) ∙ not-false _ (c .before .before .before .before .before .if1 .left))
     (c .before .before .before .before .size-of .result) (c .before .before .before .before .size-of .ensures .0) true
@@ -63,8 +63,8 @@ loop-again c = (c .before .before .before .before .size-of .ensures .0, c .befor
 
 returns-3 : tie.Need-returns-3 Inv-loop μ-loop
 returns-3 c =
-    let a = c .before .before .before .before .before .before .before .before .args in
-    load-is (a .x) (a .places .now) (a .i .0) (meant (c .before .before .before .before .before .kind-of .result))
+    let a = c .before .before .before .before .before .before .before .before .before .args in
+    load-is (a .bytes .now) (a .x) (a .places .now) (a .i .0) (meant (c .before .before .before .before .before .kind-of .result))
     (c .before .before .before .before .before .kind-of .ensures)
     (sym (c .before .before .before .before .is-load .ensures) ∙ not-false _ (c .before .before .before .if1 .left))
     (c .before .before .size-of .result) (c .before .before .size-of .ensures .0) false

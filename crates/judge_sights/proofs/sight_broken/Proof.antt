@@ -14,8 +14,8 @@ place-of-requires c κs = search needs
 
 returns : tie.Need-returns
 returns c =
-    let a = c .before .before .before .before .args in
-    sight-absent (a .x) (a .places .now) (a .load .0) (a .k) (c .before .place-of .result)
+    let a = c .before .before .before .before .before .before .args in
+    sight-absent (a .bytes .now) (a .x) (a .places .now) (a .load .0) (a .k) (c .before .place-of .result)
     (c .before .place-of .ensures ∙ ap (placed (a .places .now)) (c .before .before .read-no .ensures)) (c .if1 .taken)
 
 address-of-requires : tie.Need-address-of-requires
@@ -23,6 +23,9 @@ address-of-requires c κs = search needs
 
 add-address : tie.Need-add-address
 add-address c = search needs
+
+initial-byte-requires : tie.Need-initial-byte-requires
+initial-byte-requires c κs = search needs
 
 byte-read-requires : tie.Need-byte-read-requires
 byte-read-requires c κs = search needs
@@ -32,11 +35,11 @@ data-byte-requires c κs = search needs
 
 returns-2 : tie.Need-returns-2
 returns-2 c =
-    let a = c .before .before .before .before .before .before .before .args in
-    sight-is (a .x) (a .places .now) (a .load .0) (a .k) (c .before .before .before .before .place-of .result)
-    (c .before .before .before .before .place-of .ensures ∙ ap (placed (a .places .now)) (c .before .before .before .before .before .read-no .ensures))
-    (c .before .before .before .if1 .left) (c .before .before .address-of .result) (c .before .byte-read .result)
-    (c .data-byte .result) (c .before .before .address-of .ensures .0) (c .before .byte-read .ensures) (c .data-byte .ensures)
+    let a = c .before .before .before .before .before .before .before .before .before .before .args in
+    sight-is (a .bytes .now) (a .x) (a .places .now) (a .load .0) (a .k) (c .before .before .before .before .before .place-of .result)
+    (c .before .before .before .before .before .place-of .ensures ∙ ap (placed (a .places .now)) (c .before .before .before .before .before .before .read-no .ensures))
+    (c .before .before .before .before .if1 .left) (c .before .before .before .address-of .result) (c .before .before .initial-byte .result) (c .before .byte-read .result)
+    (c .data-byte .result) (c .before .before .before .address-of .ensures .0) (c .before .before .initial-byte .ensures) (c .before .byte-read .ensures) (c .data-byte .ensures)
 
 pub sight-broken-spec : {M : Type 1} → statement M
 sight-broken-spec =
@@ -47,6 +50,7 @@ sight-broken-spec =
     returns
     address-of-requires
     add-address
+    initial-byte-requires
     byte-read-requires
     data-byte-requires
     returns-2)

@@ -10,10 +10,10 @@ use Rattle.judge_sights.proofs.sights_broken.Statement.{statement}
 use Rattle.judge_sights.proofs.sights_broken.Tie as tie
 
 abbrev Inv-loop : tie.InvT-loop
-Inv-loop x places i₀ i-end i = (i-end ≡ x .instructions .count) × NoneYet (x .instructions .count) (loadBroken x places) i
+Inv-loop bytes x places i₀ i-end i = (i-end ≡ x .instructions .count) × NoneYet (x .instructions .count) (loadBroken bytes x places) i
 
 abbrev μ-loop : tie.MeasureT-loop
-μ-loop x places i₀ i-end i = i-end - i
+μ-loop bytes x places i₀ i-end i = i-end - i
 
 loop-holds : tie.Need-loop-holds Inv-loop μ-loop
 loop-holds c = (refl, seeks)
@@ -24,7 +24,7 @@ load-broken-requires c κs = search needs
 returns : tie.Need-returns Inv-loop μ-loop
 returns c n xs h =
     meets (c .before .before .before .loop .inv .1) (c .before .before .loop-test .taken)
-    (c .before .load-broken .ensures) (c .if1 .taken) ∙ sym (rule-by h (c .before .before .before .before .args .x))
+    (c .before .load-broken .ensures) (c .if1 .taken) ∙ sym (rule-by h (c .before .before .before .before .before .args .bytes .now) (c .before .before .before .before .before .args .x))
 
 add-i : tie.Need-add-i Inv-loop μ-loop
 add-i c = search needs
@@ -36,7 +36,7 @@ loop-again : tie.Need-loop-again Inv-loop μ-loop
 loop-again c = (refl, passes-by (c .before .before .before .loop .inv .1) (c .before .before .loop-test .taken) (c .before .load-broken .ensures) (c .if1 .left))
 
 returns-2 : tie.Need-returns-2 Inv-loop μ-loop
-returns-2 c n xs h = finds-none (c .before .loop .inv .1) (c .loop-test .left) ∙ sym (rule-by h (c .before .before .args .x))
+returns-2 c n xs h = finds-none (c .before .loop .inv .1) (c .loop-test .left) ∙ sym (rule-by h (c .before .before .before .args .bytes .now) (c .before .before .before .args .x))
 
 pub sights-broken-spec : {M : Type 1} → statement M
 sights-broken-spec =

@@ -7,7 +7,7 @@ use Rattle.record_lines.proofs.no_lines.Tie as tie
 
 returns : tie.Need-returns
 unfolding linesOf below count
-returns c = (refl, refl)
+returns c = (refl, λ part. refl)
 
 pub no-lines-spec : {M : Type 1} → statement M
 no-lines-spec = tie.close (tie.spec returns)

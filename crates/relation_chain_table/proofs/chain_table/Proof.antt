@@ -4,6 +4,7 @@ use Rattle.model.proofs.Accepted.{read-accepted}
 use Rattle.record_decoded.specs.Decoded.{executionOf}
 use Rattle.record_reader.specs.declared.reader.Answer.{Answer}
 use Rattle.record_reader.specs.Readings.{answerMeant}
+use Rattle.relation_links.proofs.CompiledLaws.{accepted-anyhow}
 use Rattle.relation_chain_table.proofs.TableLaws.{call-refused, call-accepted}
 use borrow.Author.Needs.{needs}
 use Rattle.relation_chain_table.proofs.chain_table.Statement.{statement}
@@ -20,19 +21,25 @@ enum-told c = search needs
 
 write-chains-requires : tie.Need-write-chains-requires
 write-chains-requires c κs =
-    read-accepted (c .before .before .before .before .before .before .before .args .bytes .now) (executionOf (c .before .before .before .before .read .result .execution)) (c .before .before .before .before .read .ensures ∙ ap (λ (r : Answer). answerMeant r (c .before .before .before .before .read .result .execution)) (c .before .enum-told .given .1))
+    let bytes = c .before .before .before .before .before .before .before .args .bytes .now in
+    let x = c .before .before .before .before .read .result .execution in
+    accepted-anyhow bytes x (read-accepted bytes (executionOf bytes x) (c .before .before .before .before .read .ensures ∙ ap (λ (r : Answer). answerMeant bytes r x) (c .before .enum-told .given .1)))
 
 returns : tie.Need-returns
 returns c =
-    call-refused (c .before .before .before .before .before .before .before .args .bytes .now) (c .before .before .before .before .before .before .before .args .table .now) (c .before .before .before .before .read .ensures ∙ ap (λ (r : Answer). answerMeant r (c .before .before .before .before .read .result .execution)) (c .before .answer .given .1))
+    let g = c .before .before .before .before .before .before .before .args in
+    let reading = c .before .before .before .before .read in
+    call-refused (g .bytes .now) (g .table .now) (reading .ensures ∙ ap (λ (r : Answer). answerMeant (g .bytes .now) r (reading .result .execution)) (c .before .answer .given .1))
 
 same-length : tie.Need-same-length
 same-length c = search needs
 
 returns-2 : tie.Need-returns-2
 returns-2 c =
-    c .before .before .write-chains .ensures
-    ∙ call-accepted (c .before .before .before .before .before .before .before .before .before .before .args .bytes .now) (c .before .before .before .before .before .before .before .before .before .before .args .table .now) (c .before .before .before .before .before .before .before .read .ensures ∙ ap (λ (r : Answer). answerMeant r (c .before .before .before .before .before .before .before .read .result .execution)) (c .before .before .before .before .enum-told .given .1))
+    let g = c .before .before .before .before .before .before .before .before .before .before .args in
+    let reading = c .before .before .before .before .before .before .before .read in
+    c .before .before .write-chains .ensures (g .bytes .now)
+    ∙ call-accepted (g .bytes .now) (g .table .now) (reading .ensures ∙ ap (λ (r : Answer). answerMeant (g .bytes .now) r (reading .result .execution)) (c .before .before .before .before .enum-told .given .1))
 
 pub chain-table-spec : {M : Type 1} → statement M
 chain-table-spec =

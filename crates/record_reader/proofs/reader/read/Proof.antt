@@ -3,7 +3,7 @@ use Prim.Native.Nat.{ℕ, _+_, _≤_}
 use native.Mathlib.Omega.{arith}
 use mathlib.Core.Path.{sym, ap, ap₂, _∙_}
 use mathlib.Core.List.{List}
-use lib.ListN.{length, drop, length-drop}
+use lib.ListN.{length, getD, drop, length-drop}
 use lib.Seq.{drop-drop}
 use Rattle.base.proofs.Copies.{rest}
 use Rattle.model.specs.Calls.{answerOf}
@@ -18,7 +18,7 @@ refused-requires : tie.Need-refused-requires
 refused-requires c κs = search needs
 
 returns : tie.Need-returns
-returns c = record-short (c .before .before .before .args .bytes .now) (c .before .if1 .taken) ∙ c .refused .ensures
+returns c = record-short (c .before .before .before .args .bytes .now) (c .before .if1 .taken) ∙ c .refused .ensures _
 
 shared-slice-read-p : tie.Need-shared-slice-read-p
 shared-slice-read-p c = search needs
@@ -27,13 +27,13 @@ refused-requires-2 : tie.Need-refused-requires-2
 refused-requires-2 c κs = search needs
 
 returns-2 : tie.Need-returns-2
-returns-2 c = record-few (c .before .before .before .before .before .args .bytes .now) (omega arith) (c .before .if2 .taken) ∙ c .refused2 .ensures
+returns-2 c = record-few (c .before .before .before .before .before .args .bytes .now) (omega arith) (c .before .if2 .taken) ∙ c .refused2 .ensures _
 
 refused-requires-3 : tie.Need-refused-requires-3
 refused-requires-3 c κs = search needs
 
 returns-3 : tie.Need-returns-3
-returns-3 c = record-many (c .before .before .before .before .before .before .args .bytes .now) (omega arith) (c .before .if3 .taken) ∙ c .refused3 .ensures
+returns-3 c = record-many (c .before .before .before .before .before .before .args .bytes .now) (omega arith) (c .before .if3 .taken) ∙ c .refused3 .ensures _
 
 sub-read-lines : tie.Need-sub-read-lines
 sub-read-lines c = search needs
@@ -83,16 +83,18 @@ read-rest-requires c κs = search needs
 returns-4 : tie.Need-returns-4
 returns-4 c =
     let bytes = c .before .before .before .before .before .before .before .before .before .before .before .before .args .bytes .now in
-    record-fails bytes (omega arith) (omega arith) (omega arith) _ (rest 1 bytes) (c .before .before .before .before .before .read-lines .ensures .0) (c .before .before .step .given .1) ∙ c .refused4 .ensures
+    record-fails bytes (omega arith) (omega arith) (omega arith) _ (rest 1 bytes) (c .before .before .before .before .before .read-lines .ensures .0) (c .before .before .step .given .1) ∙ c .refused4 .ensures _
 
 returns-5 : tie.Need-returns-5
 returns-5 c =
     let bytes = c .before .before .before .before .before .before .before .before .before .before .before .before .before .before .args .bytes .now in
     let k = c .before .before .before .before .step2 .given .0 .0 in
+    let lines = c .before .before .before .before .before .before .before .read-lines .result .lines in
     record-read bytes (omega arith) (omega arith) (omega arith) _ (rest 1 bytes) (c .before .before .before .before .before .before .before .read-lines .ensures .0) (c .before .before .before .before .step2 .given .1)
-    ∙ ap₂ (λ (p : ℕ) (l : List ℕ). answerOf (afterLines p (linesOf (c .before .before .before .before .before .before .before .read-lines .result .lines)) l)) (sym (c .before .wide .ensures .0))
-    (ap (drop k) (rest 1 bytes) ∙ drop-drop k 1 bytes ∙ sym (rest (1 + k) bytes))
-    ∙ c .read-rest .ensures
+    ∙ ap (λ (s : List ℕ). answerOf (afterLines (getD bytes 0 0) (linesOf s lines) (drop k s))) (rest 1 bytes)
+    ∙ ap₂ (λ (p : ℕ) (l : List ℕ). answerOf (afterLines p (linesOf (drop 1 bytes) lines) l)) (sym (c .before .wide .ensures .0))
+    (drop-drop k 1 bytes ∙ sym (rest (1 + k) bytes))
+    ∙ c .read-rest .ensures bytes
 
 pub read-spec : {M : Type 1} → statement M
 read-spec =

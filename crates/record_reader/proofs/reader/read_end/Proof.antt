@@ -1,5 +1,6 @@
 -- The pairs, then question 15.
 use mathlib.Core.Path.{_∙_}
+use lib.ListN.{drop}
 use Rattle.record_decoded.specs.Decoded.{linesOf, instructionsOf, executionOf}
 use Rattle.record_reader.proofs.ReadingLaws.{end-fails, end-more, end-here}
 use borrow.Author.Needs.{needs}
@@ -24,18 +25,18 @@ refused-requires-2 c κs = search needs
 returns : tie.Need-returns
 returns c =
     let a = c .before .before .before .before .before .before .before .before .args in
-    end-more (a .processors) (linesOf (a .lines)) (instructionsOf (a .instructions)) (a .part .now) (c .before .before .before .before .before .before .read-pairs .ensures) (c .before .before .before .step2 .given .1) (c .before .if1 .taken) ∙ c .refused2 .ensures
+    λ bytes. end-more (a .processors) (linesOf (drop 1 bytes) (a .lines)) (instructionsOf (a .instructions)) (a .part .now) (c .before .before .before .before .before .before .read-pairs .ensures) (c .before .before .before .step2 .given .1) (c .before .if1 .taken) ∙ c .refused2 .ensures bytes
 
 returns-2 : tie.Need-returns-2
 returns-2 c =
     let a = c .before .before .before .before .before .before .before .args in
-    end-fails (a .processors) (linesOf (a .lines)) (instructionsOf (a .instructions)) (a .part .now) (c .before .before .before .before .before .read-pairs .ensures) (c .before .before .step .given .1) ∙ c .refused .ensures
+    λ bytes. end-fails (a .processors) (linesOf (drop 1 bytes) (a .lines)) (instructionsOf (a .instructions)) (a .part .now) (c .before .before .before .before .before .read-pairs .ensures) (c .before .before .step .given .1) ∙ c .refused .ensures bytes
 
 returns-3 : tie.Need-returns-3
 unfolding executionOf
 returns-3 c =
     let a = c .before .before .before .before .before .before .before .args in
-    end-here (a .processors) (linesOf (a .lines)) (instructionsOf (a .instructions)) (a .part .now) (c .before .before .before .before .before .read-pairs .ensures) (c .before .before .step2 .given .1) (c .if1 .left)
+    λ bytes. end-here (a .processors) (linesOf (drop 1 bytes) (a .lines)) (instructionsOf (a .instructions)) (a .part .now) (c .before .before .before .before .before .read-pairs .ensures) (c .before .before .step2 .given .1) (c .if1 .left)
 
 pub read-end-spec : {M : Type 1} → statement M
 read-end-spec =

@@ -1,7 +1,7 @@
 -- Each turn enters the row of one instruction more.
 use Prim.Native.Nat.{ℕ, _-_, _≤_, _<_}
 use mathlib.Core.Path.{_≡_, refl}
-use mathlib.Core.List.{[]}
+use mathlib.Core.List.{List, []}
 use lib.ListN.{getD}
 use Rattle.base.proofs.Entries.{Entered, entered-none, entered-more}
 use Rattle.record_decoded.specs.Decoded.{instructionAt, executionOf}
@@ -12,7 +12,7 @@ use Rattle.relation_marks.proofs.between.all_marks.Statement.{statement
 use Rattle.relation_marks.proofs.between.all_marks.Tie as tie
 
 abbrev Inv-loop : tie.InvT-loop
-Inv-loop x n marks₀ m₀ marks m = (m ≤ n) × Entered 40 [] (λ i row. (k : ℕ) → k < n → getD row k 0 ≡ marksBetween (executionOf x) (instructionAt (x .instructions) i) (instructionAt (x .instructions) k)) m marks
+Inv-loop x n marks₀ m₀ marks m = (m ≤ n) × Entered 40 [] (λ i row. (bytes : List ℕ) (k : ℕ) → k < n → getD row k 0 ≡ marksBetween (executionOf bytes x) (instructionAt (x .instructions) i) (instructionAt (x .instructions) k)) m marks
 
 abbrev μ-loop : tie.MeasureT-loop
 μ-loop x n marks₀ m₀ marks m = n - m
@@ -39,7 +39,7 @@ loop-again : tie.Need-loop-again Inv-loop μ-loop
 loop-again c = (omega arith, entered-more (c .before .before .loop .inv .1) (c .marks-row .result) (omega arith) (c .marks-row .ensures))
 
 returns : tie.Need-returns Inv-loop μ-loop
-returns c = λ m k h l. c .before .loop .inv .1 .holds m (omega (arith, h, c .loop-test .left)) k l
+returns c = λ bytes m k h l. c .before .loop .inv .1 .holds m (omega (arith, h, c .loop-test .left)) bytes k l
 
 pub all-marks-spec : {M : Type 1} → statement M
 all-marks-spec =

@@ -1,7 +1,8 @@
 -- Each turn enters the marks with one instruction more.
 use native.Mathlib.Omega.{arith}
-use Prim.Native.Nat.{_-_, _≤_}
+use Prim.Native.Nat.{ℕ, _-_, _≤_}
 use mathlib.Core.Path.{_≡_, refl}
+use mathlib.Core.List.{List}
 use Rattle.base.proofs.Entries.{Entered, entered-none, entered-more}
 use Rattle.record_decoded.specs.Decoded.{instructionAt, executionOf}
 use Rattle.relation_marks.specs.Marks.{marksBetween}
@@ -12,7 +13,7 @@ use Rattle.relation_marks.proofs.between.marks_row.Tie as tie
 
 abbrev Inv-loop : tie.InvT-loop
 Inv-loop x i n processors kinds addresses sizes first processor address size a of-a row₀ k₀ row k =
-    (k ≤ n) × Entered 40 0 (λ j r. r ≡ marksBetween (executionOf x) (instructionAt (x .instructions) first) (instructionAt (x .instructions) j)) k row
+    (k ≤ n) × Entered 40 0 (λ j r. (bytes : List ℕ) → r ≡ marksBetween (executionOf bytes x) (instructionAt (x .instructions) first) (instructionAt (x .instructions) j)) k row
 
 abbrev μ-loop : tie.MeasureT-loop
 μ-loop x i n processors kinds addresses sizes first processor address size a of-a row₀ k₀ row k = n - k
@@ -88,12 +89,12 @@ loop-again c =
     let g = c .before .before .before .before .before .before .before .before .before .before .before .before .before .before .before .args in (
       omega (arith, c .before .before .before .before .before .before .loop-test .taken),
       entered-more (c .before .before .before .before .before .before .before .loop .inv .1) (c .marks-by .result) (omega (arith, c .before .before .before .before .before .before .loop-test .taken, c .before .before .before .before .before .before .before .before .before .before .before .before .before .before .before .pre .1))
-          (between-made (g .x) (g .i .0) (c .before .before .before .before .before .before .before .loop .k) refl refl (c .before .before .before .before .before .both .ensures) (c .before .before .before .before .before .before .before .before .before .kind-of .ensures) (c .before .before .kind-of2 .ensures) (c .before .before .before .before .shares-byte .ensures)
-          (c .before .before .before .before .before .before .before .before .attribute-in .ensures) (c .before .attribute-in2 .ensures) (c .before .before .before .is-pair .ensures) (c .marks-by .ensures)),
+          (λ bytes. between-made bytes (g .x) (g .i .0) (c .before .before .before .before .before .before .before .loop .k) refl refl (c .before .before .before .before .before .both .ensures) (c .before .before .before .before .before .before .before .before .before .kind-of .ensures) (c .before .before .kind-of2 .ensures) (c .before .before .before .before .shares-byte .ensures)
+          (c .before .before .before .before .before .before .before .before .attribute-in .ensures _) (c .before .attribute-in2 .ensures _) (c .before .before .before .is-pair .ensures) (c .marks-by .ensures)),
     )
 
 returns : tie.Need-returns Inv-loop μ-loop
-returns c = λ k h. c .before .loop .inv .1 .holds k (omega (arith, h, c .loop-test .left))
+returns c = λ bytes k h. c .before .loop .inv .1 .holds k (omega (arith, h, c .loop-test .left)) bytes
 
 pub marks-row-spec : {M : Type 1} → statement M
 marks-row-spec =

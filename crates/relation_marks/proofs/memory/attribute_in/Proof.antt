@@ -22,12 +22,12 @@ returns : tie.Need-returns
 returns c =
     let a = c .before .before .before .before .before .args in
     let line = ap (λ (k : ℕ). k / 8) (c .before .before .before .before .wide .ensures .0) in
-    c .attribute-of .ensures ∙ attribute-there (a .lines) _ (c .before .if1 .taken) ∙ ap (λ (k : ℕ). getD (linesOf (a .lines)) k noLine .attribute) line
+    λ part. c .attribute-of .ensures ∙ attribute-there part (a .lines) _ (c .before .if1 .taken) ∙ ap (λ (k : ℕ). getD (linesOf part (a .lines)) k noLine .attribute) line
 
 returns-2 : tie.Need-returns-2
 returns-2 c =
     let a = c .before .before .before .before .args in
-    attribute-past (a .lines) _ (c .if1 .left) ∙ ap (λ (k : ℕ). getD (linesOf (a .lines)) k noLine .attribute) (ap (λ (k : ℕ). k / 8) (c .before .before .before .wide .ensures .0))
+    λ part. attribute-past part (a .lines) _ (c .if1 .left) ∙ ap (λ (k : ℕ). getD (linesOf part (a .lines)) k noLine .attribute) (ap (λ (k : ℕ). k / 8) (c .before .before .before .wide .ensures .0))
 
 pub attribute-in-spec : {M : Type 1} → statement M
 attribute-in-spec =

@@ -16,8 +16,9 @@ enum-told c = search needs
 
 search-execution-requires : tie.Need-search-execution-requires
 search-execution-requires c κs =
+    let bytes = c .before .before .before .before .before .before .args .bytes .now in
     let r = c .before .before .before .read .result .execution in
-    read-accepted (c .before .before .before .before .before .before .args .bytes .now) (executionOf r) (c .before .before .before .read .ensures ∙ ap (λ t. answerMeant t r) (c .before .enum-told .given .1))
+    read-accepted bytes (executionOf bytes r) (c .before .before .before .read .ensures ∙ ap (λ t. answerMeant bytes t r) (c .before .enum-told .given .1))
 
 enum-known-answer : tie.Need-enum-known-answer
 enum-known-answer c = search needs
@@ -33,7 +34,7 @@ returns c =
     let a = c .before .before .before .before .before .before .before .before .before .args in
     let r = c .before .before .before .before .before .before .read .result .execution in
     c .before .before .search-execution .ensures
-    ∙ search-accepted (a .buffer .now) (a .saved) (a .allowance) (a .bytes .now) (executionOf r) (c .before .before .before .before .before .before .read .ensures ∙ ap (λ t. answerMeant t r) (c .before .before .before .before .enum-told .given .1))
+    ∙ search-accepted (a .buffer .now) (a .saved) (a .allowance) (a .bytes .now) (executionOf (a .bytes .now) r) (c .before .before .before .before .before .before .read .ensures ∙ ap (λ t. answerMeant (a .bytes .now) t r) (c .before .before .before .before .enum-told .given .1))
 
 returns-2 : tie.Need-returns-2
 returns-2 c =
@@ -41,7 +42,7 @@ returns-2 c =
     let r = c .before .before .before .before .read .result .execution in
     let e = c .refused .ensures in
     refused-reply (a .buffer .now) (a .saved) (a .allowance) (c .refused .result) _ (e .0) (e .1) (e .2)
-    ∙ search-refused (a .buffer .now) (a .saved) (a .allowance) (a .bytes .now) _ (c .before .before .before .before .read .ensures ∙ ap (λ t. answerMeant t r) (c .before .before .answer .given .1))
+    ∙ search-refused (a .buffer .now) (a .saved) (a .allowance) (a .bytes .now) _ (c .before .before .before .before .read .ensures ∙ ap (λ t. answerMeant (a .bytes .now) t r) (c .before .before .answer .given .1))
 
 pub search-spec : {M : Type 1} → statement M
 search-spec =

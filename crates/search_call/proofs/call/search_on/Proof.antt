@@ -17,26 +17,26 @@ use Rattle.search_call.proofs.call.search_on.Statement.{statement}
 use Rattle.search_call.proofs.call.search_on.Tie as tie
 
 rows-of-requires : tie.Need-rows-of-requires
-rows-of-requires c κs = let pre = c .before .pre in (pre .0 .1, pre .0 .0)
+rows-of-requires c κs = let pre = c .before .before .pre in (pre .0 .1, pre .0 .0)
 
 saved-position-requires : tie.Need-saved-position-requires
 saved-position-requires c κs =
-    let pre = c .before .before .before .pre in
-    let a = c .before .before .before .args in (
+    let pre = c .before .before .before .before .pre in
+    let a = c .before .before .before .before .args in (
       (let z : a .saved ≤ 128 = omega (arith, pre .1 .0, pre .0 .1 .tabled .counts, pre .0 .0 .operations-few) in z),
       (let z : a .saved ≤ length (a .buffer .now) = omega (arith, pre .1 .0, pre .1 .1) in z),
     )
 
 affected-by-requires : tie.Need-affected-by-requires
-affected-by-requires c κs = let pre = c .before .before .before .before .before .pre in omega (arith, pre .0 .1 .tabled .counts, pre .0 .0 .operations-few)
+affected-by-requires c κs = let pre = c .before .before .before .before .before .before .pre in omega (arith, pre .0 .1 .tabled .counts, pre .0 .0 .operations-few)
 
 search-from-requires : tie.Need-search-from-requires
 search-from-requires c κs =
-    let pre = c .before .before .before .before .before .before .before .before .pre in
+    let pre = c .before .before .before .before .before .before .before .before .before .pre in
     let p = c .before .before .before .before .saved-position .ensures in (
       omega (arith, pre .0 .1 .tabled .counts, pre .0 .0 .operations-few),
       omega (arith, p .1, pre .1 .0),
-      ap (distinct (c .before .before .before .before .before .before .before .before .args .t .count) []) (p .0) ∙ pre .1 .2,
+      ap (distinct (c .before .before .before .before .before .before .before .before .before .args .t .count) []) (p .0) ∙ pre .1 .2,
       p .2,
       c .before .before .affected-by .ensures,
     )
@@ -49,9 +49,9 @@ same-length c = search needs
 
 returns : tie.Need-returns
 returns c =
-    let a = c .before .before .before .before .before .before .before .before .before .before .before .before .args in
-    let pre = c .before .before .before .before .before .before .before .before .before .before .before .before .pre in
-    let e = executionOf (a .x) in
+    let a = c .before .before .before .before .before .before .before .before .before .before .before .before .before .args in
+    let pre = c .before .before .before .before .before .before .before .before .before .before .before .before .before .pre in
+    let e = executionOf (a .bytes .now) (a .x) in
     let r = c .refused .ensures in
     refused-reply (a .buffer .now) (a .saved) (a .allowance) (c .refused .result) 21 (r .0) (r .1) (r .2)
     ∙ ap (searchReply (a .saved) (a .buffer .now)) (searched-21 e (take (a .saved) (a .buffer .now)) (a .allowance)
@@ -61,8 +61,8 @@ returns c =
 
 write-position-requires : tie.Need-write-position-requires
 write-position-requires c κs =
-    let pre = c .before .before .before .before .before .before .before .before .before .before .before .before .pre in
-    let a = c .before .before .before .before .before .before .before .before .before .before .before .before .args in (
+    let pre = c .before .before .before .before .before .before .before .before .before .before .before .before .before .pre in
+    let a = c .before .before .before .before .before .before .before .before .before .before .before .before .before .args in (
       omega (arith, c .before .before .before .search-from .ensures .bounded .short, pre .0 .1 .tabled .counts, pre .0 .0 .operations-few),
       (let z : c .before .before .before .search-from .result .position .length ≤ length (a .buffer .now) = omega (arith, c .before .before .before .search-from .ensures .bounded .short, pre .1 .1) in z),
     )
@@ -75,9 +75,9 @@ same-length-2 c = search needs
 
 returns-2 : tie.Need-returns-2
 returns-2 c =
-    let a = c .before .before .before .before .before .before .before .before .before .before .before .before .before .before .before .before .args in
-    let pre = c .before .before .before .before .before .before .before .before .before .before .before .before .before .before .before .before .pre in
-    let e = executionOf (a .x) in
+    let a = c .before .before .before .before .before .before .before .before .before .before .before .before .before .before .before .before .before .args in
+    let pre = c .before .before .before .before .before .before .before .before .before .before .before .before .before .before .before .before .before .pre in
+    let e = executionOf (a .bytes .now) (a .x) in
     let p = c .before .before .before .before .before .before .before .before .before .before .before .before .saved-position .ensures in
     let d = c .before .before .before .before .before .before .before .search-from .ensures in
     let count = pre .0 .1 .tabled .counts in

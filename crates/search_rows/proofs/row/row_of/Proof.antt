@@ -5,7 +5,7 @@ use mathlib.Core.Path.{ap, _∙_}
 use mathlib.Core.List.{List}
 use lib.ListN.{getD}
 use Rattle.record_decoded.specs.Kinds.{meant}
-use Rattle.relation_links.proofs.CompiledLaws.{few-processors, few-instructions}
+use Rattle.relation_links.proofs.CompiledLaws.{few-processors, few-lines, few-instructions}
 use Rattle.search_rows.proofs.LineLaws.{covers-by, data-by}
 use Rattle.search_rows.proofs.RowLaws.{owner-fits, row-is}
 use borrow.Author.Needs.{needs}
@@ -13,7 +13,7 @@ use Rattle.search_rows.proofs.row.row_of.Statement.{statement}
 use Rattle.search_rows.proofs.row.row_of.Tie as tie
 
 element-copy-out-wide : tie.Need-element-copy-out-wide
-element-copy-out-wide c = omega (arith, c .pre .2, c .pre .1 .operations-few)
+element-copy-out-wide c = omega (arith, c .before .before .pre .2, c .before .before .pre .1 .operations-few)
 
 wide-requires : tie.Need-wide-requires
 wide-requires c κs = search needs
@@ -23,7 +23,7 @@ element-copy-out-role c = search needs
 
 element-copy-out-kind-of : tie.Need-element-copy-out-kind-of
 element-copy-out-kind-of c =
-    let s = c .before .before .before in
+    let s = c .before .before .before .before .before in
     owner-fits (s .pre .0) (s .pre .1) (s .args .o .0) (s .pre .2) (s .pre .3) (c .before .wide .result) (c .before .wide .ensures .0) .0
 
 kind-of-requires : tie.Need-kind-of-requires
@@ -34,7 +34,7 @@ mul-wide16 c = search needs
 
 element-copy-out-wide16 : tie.Need-element-copy-out-wide16
 element-copy-out-wide16 c =
-    let s = c .before .before .before .before .before in
+    let s = c .before .before .before .before .before .before .before in
     owner-fits (s .pre .0) (s .pre .1) (s .args .o .0) (s .pre .2) (s .pre .3) (c .before .before .before .wide .result) (c .before .before .before .wide .ensures .0) .0
 
 wide16-requires : tie.Need-wide16-requires
@@ -42,7 +42,7 @@ wide16-requires c κs = search needs
 
 element-copy-out-wide-2 : tie.Need-element-copy-out-wide-2
 element-copy-out-wide-2 c =
-    let s = c .before .before .before .before .before .before .before in
+    let s = c .before .before .before .before .before .before .before .before .before in
     owner-fits (s .pre .0) (s .pre .1) (s .args .o .0) (s .pre .2) (s .pre .3) (c .before .before .before .before .before .wide .result) (c .before .before .before .before .before .wide .ensures .0) .0
 
 wide-requires-2 : tie.Need-wide-requires-2
@@ -50,7 +50,7 @@ wide-requires-2 c κs = search needs
 
 element-copy-out-wide-3 : tie.Need-element-copy-out-wide-3
 element-copy-out-wide-3 c =
-    let s = c .before .before .before .before .before .before .before .before .before in
+    let s = c .before .before .before .before .before .before .before .before .before .before .before in
     owner-fits (s .pre .0) (s .pre .1) (s .args .o .0) (s .pre .2) (s .pre .3) (c .before .before .before .before .before .before .before .wide .result) (c .before .before .before .before .before .before .before .wide .ensures .0) .0
 
 wide-requires-3 : tie.Need-wide-requires-3
@@ -58,7 +58,7 @@ wide-requires-3 c κs = search needs
 
 element-copy-out-wide-4 : tie.Need-element-copy-out-wide-4
 element-copy-out-wide-4 c =
-    let s = c .before .before .before .before .before .before .before .before .before .before .before in
+    let s = c .before .before .before .before .before .before .before .before .before .before .before .before .before in
     owner-fits (s .pre .0) (s .pre .1) (s .args .o .0) (s .pre .2) (s .pre .3) (c .before .before .before .before .before .before .before .before .before .wide .result) (c .before .before .before .before .before .before .before .before .before .wide .ensures .0) .0
 
 wide-requires-4 : tie.Need-wide-requires-4
@@ -66,8 +66,8 @@ wide-requires-4 c κs = search needs
 
 preds-at-requires : tie.Need-preds-at-requires
 preds-at-requires c κs =
-    let s = c .before .before .before .before .before .before .before .before .before .before .before .before .before in
-    (few-instructions (s .args .x) (s .pre .1), few-processors (s .args .x) (s .pre .1), owner-fits (s .pre .0) (s .pre .1) (s .args .o .0) (s .pre .2) (s .pre .3) (c .before .before .before .before .before .before .before .before .before .before .before .wide .result) (c .before .before .before .before .before .before .before .before .before .before .before .wide .ensures .0) .0)
+    let s = c .before .before .before .before .before .before .before .before .before .before .before .before .before .before .before in
+    (few-instructions (s .args .bytes .now) (s .args .x) (s .pre .1), few-processors (s .args .bytes .now) (s .args .x) (s .pre .1), owner-fits (s .pre .0) (s .pre .1) (s .args .o .0) (s .pre .2) (s .pre .3) (c .before .before .before .before .before .before .before .before .before .before .before .wide .result) (c .before .before .before .before .before .before .before .before .before .before .before .wide .ensures .0) .0)
 
 mul-partners-at : tie.Need-mul-partners-at
 mul-partners-at c = search needs
@@ -77,39 +77,39 @@ mul-partners-at-2 c = search needs
 
 index-1-partners-at : tie.Need-index-1-partners-at
 index-1-partners-at c =
-    let s = c .before .before .before .before .before .before .before .before .before .before .before .before .before .before in
+    let s = c .before .before .before .before .before .before .before .before .before .before .before .before .before .before .before .before in
     owner-fits (s .pre .0) (s .pre .1) (s .args .o .0) (s .pre .2) (s .pre .3) (c .before .before .before .before .before .before .before .before .before .before .before .before .wide .result) (c .before .before .before .before .before .before .before .before .before .before .before .before .wide .ensures .0) .0
 
 index-2-partners-at : tie.Need-index-2-partners-at
 index-2-partners-at c =
-    let s = c .before .before .before .before .before .before .before .before .before .before .before .before .before .before in
+    let s = c .before .before .before .before .before .before .before .before .before .before .before .before .before .before .before .before in
     owner-fits (s .pre .0) (s .pre .1) (s .args .o .0) (s .pre .2) (s .pre .3) (c .before .before .before .before .before .before .before .before .before .before .before .before .wide .result) (c .before .before .before .before .before .before .before .before .before .before .before .before .wide .ensures .0) .0
 
 partners-at-requires : tie.Need-partners-at-requires
 partners-at-requires c κs =
-    let s = c .before .before .before .before .before .before .before .before .before .before .before .before .before .before .before in
-    (c .before .before .before .before .before .before .before .before .wide16 .ensures .1, few-processors (s .args .x) (s .pre .1))
+    let s = c .before .before .before .before .before .before .before .before .before .before .before .before .before .before .before .before .before in
+    (c .before .before .before .before .before .before .before .before .wide16 .ensures .1, few-processors (s .args .bytes .now) (s .args .x) (s .pre .1))
 
 awaited-at-requires : tie.Need-awaited-at-requires
 awaited-at-requires c κs =
-    let s = c .before .before .before .before .before .before .before .before .before .before .before .before .before .before .before .before in
-    (few-instructions (s .args .x) (s .pre .1), owner-fits (s .pre .0) (s .pre .1) (s .args .o .0) (s .pre .2) (s .pre .3) (c .before .before .before .before .before .before .before .before .before .before .before .before .before .before .wide .result) (c .before .before .before .before .before .before .before .before .before .before .before .before .before .before .wide .ensures .0) .0)
+    let s = c .before .before .before .before .before .before .before .before .before .before .before .before .before .before .before .before .before .before in
+    (few-instructions (s .args .bytes .now) (s .args .x) (s .pre .1), owner-fits (s .pre .0) (s .pre .1) (s .args .o .0) (s .pre .2) (s .pre .3) (c .before .before .before .before .before .before .before .before .before .before .before .before .before .before .wide .result) (c .before .before .before .before .before .before .before .before .before .before .before .before .before .before .wide .ensures .0) .0)
 
 bypasses-at-requires : tie.Need-bypasses-at-requires
 bypasses-at-requires c κs =
-    let s = c .before .before .before .before .before .before .before .before .before .before .before .before .before .before .before .before .before in
-    (few-instructions (s .args .x) (s .pre .1), owner-fits (s .pre .0) (s .pre .1) (s .args .o .0) (s .pre .2) (s .pre .3) (c .before .before .before .before .before .before .before .before .before .before .before .before .before .before .before .wide .result) (c .before .before .before .before .before .before .before .before .before .before .before .before .before .before .before .wide .ensures .0) .0)
+    let s = c .before .before .before .before .before .before .before .before .before .before .before .before .before .before .before .before .before .before .before in
+    (few-instructions (s .args .bytes .now) (s .args .x) (s .pre .1), owner-fits (s .pre .0) (s .pre .1) (s .args .o .0) (s .pre .2) (s .pre .3) (c .before .before .before .before .before .before .before .before .before .before .before .before .before .before .before .wide .result) (c .before .before .before .before .before .before .before .before .before .before .before .before .before .before .before .wide .ensures .0) .0)
 
 bits-from-requires : tie.Need-bits-from-requires
 bits-from-requires c κs =
-    let s = c .before .before .before .before .before .before .before .before .before .before .before .before .before .before .before .before .before .before in
+    let s = c .before .before .before .before .before .before .before .before .before .before .before .before .before .before .before .before .before .before .before .before in
     omega (arith, owner-fits (s .pre .0) (s .pre .1) (s .args .o .0) (s .pre .2) (s .pre .3) (c .before .before .before .before .before .before .before .before .before .before .before .before .before .before .before .before .wide .result) (c .before .before .before .before .before .before .before .before .before .before .before .before .before .before .before .before .wide .ensures .0) .1, c .before .before .before .before .before .before .before .wide3 .ensures .0, c .before .before .before .before .before .wide4 .ensures .0)
 
-data-from-requires : tie.Need-data-from-requires
-data-from-requires c κs =
-    let s = c .before .before .before .before .before .before .before .before .before .before .before .before .before .before .before .before .before .before .before in
+relative-from-requires : tie.Need-relative-from-requires
+relative-from-requires c κs =
+    let s = c .before .before .before .before .before .before .before .before .before .before .before .before .before .before .before .before .before .before .before .before .before in
     let fits = owner-fits (s .pre .0) (s .pre .1) (s .args .o .0) (s .pre .2) (s .pre .3) (c .before .before .before .before .before .before .before .before .before .before .before .before .before .before .before .before .before .wide .result) (c .before .before .before .before .before .before .before .before .before .before .before .before .before .before .before .before .before .wide .ensures .0) in
-    (fits .0, omega (arith, fits .1, c .before .before .before .before .before .before .before .before .wide3 .ensures .0, c .before .before .before .before .before .before .wide4 .ensures .0))
+    (few-lines (s .args .bytes .now) (s .args .x) (s .pre .1), fits .0, c .before .before .before .before .before .before .before .before .wide3 .ensures .1, omega (arith, fits .1, c .before .before .before .before .before .before .before .before .wide3 .ensures .0, c .before .before .before .before .before .before .wide4 .ensures .0))
 
 is-writing-requires : tie.Need-is-writing-requires
 is-writing-requires c κs = search needs
@@ -149,7 +149,7 @@ number-or-own-requires-2 c κs = search needs
 
 returns : tie.Need-returns
 returns c =
-    let s = c .before .before .before .before .before .before .before .before .before .before .before .before .before .before .before .before .before .before .before .before .before .before .before .before .before .before .before .before .before .before .before .before in
+    let s = c .before .before .before .before .before .before .before .before .before .before .before .before .before .before .before .before .before .before .before .before .before .before .before .before .before .before .before .before .before .before .before .before .before .before in
     let g = s .args in
     let pre = s .pre in
     let lent = pre .3 in
@@ -160,8 +160,8 @@ returns c =
     (c .before .before .before .before .before .before .before .before .before .before .before .before .before .before .before .before .before .before .before .before .before .before .before .before .before .before .before .before .before .before .wide .ensures .0 ∙ ap (λ (own : List ℕ). getD own (g .o .0) 0) (lent .owners-are)) (c .before .before .before .before .before .before .before .before .before .before .before .before .before .before .before .before .before .before .before .before .before .before .before .before .before .wide16 .ensures .0) (c .before .before .before .before .before .before .before .before .before .before .before .before .before .before .before .before .before .before .before .before .before .before .before .before .before .before .before .kind-of .ensures) (c .before .before .before .before .before .before .before .before .before .before .before .before .before .before .before .before .before .before .before .before .before .before .before .wide2 .ensures .0)
     (ap (λ (a : ℕ). a / 8) (c .before .before .before .before .before .before .before .before .before .before .before .before .before .before .before .before .before .before .before .before .before .wide3 .ensures .0))
     (c .before .before .before .before .before .before .before .before .before .before .before .before .before .before .before .before .before .before .preds-at .ensures) (c .before .before .before .before .before .before .before .before .before .before .before .before .before .before .before .before .partners-at .ensures) (c .before .before .before .before .before .before .before .before .before .before .before .before .before .before .before .awaited-at .ensures) (c .before .before .before .before .before .before .before .before .before .before .before .before .before .before .bypasses-at .ensures)
-    (c .before .before .before .before .before .before .before .before .before .before .before .before .before .bits-from .result) (c .before .before .before .before .before .before .before .before .before .before .before .before .data-from .result)
-    (λ i l. c .before .before .before .before .before .before .before .before .before .before .before .before .before .bits-from .ensures i l ∙ covers-by (g .x) w address size i) (λ i l. c .before .before .before .before .before .before .before .before .before .before .before .before .data-from .ensures i l ∙ data-by (g .x) w address size (lent .bytes-are) i)
+    (c .before .before .before .before .before .before .before .before .before .before .before .before .before .bits-from .result) (c .before .before .before .before .before .before .before .before .before .before .before .before .relative-from .result)
+    (λ i l. c .before .before .before .before .before .before .before .before .before .before .before .before .before .bits-from .ensures i l ∙ covers-by (g .x) w address size i) (λ i l. c .before .before .before .before .before .before .before .before .before .before .before .before .relative-from .ensures i l ∙ data-by (g .x) w address size (g .bytes .now) (lent .values-are) i)
     (c .before .before .before .before .before .before .before .before .before .before .before .is-writing .result) (c .before .before .before .before .before .before .before .before .before .before .before .is-writing .ensures)
     (c .before .before .before .before .before .before .before .before .before .before .wanted .ensures) (c .before .before .before .before .before .before .before .before .before .wanted2 .ensures) (c .before .before .before .before .before .before .before .before .word-of .ensures) (c .before .before .before .before .before .before .before .wanted3 .ensures) (c .before .before .before .before .before .before .wanted4 .ensures) (c .before .before .before .before .before .visible-at .ensures .0) (c .before .before .before .before .own-at .ensures .0)
     (c .before .before .before .number-of .result .0) (c .before .before .number-of2 .result .0) (c .before .before .before .number-of .ensures) (c .before .before .number-of2 .ensures)
@@ -194,7 +194,7 @@ row-of-spec =
     awaited-at-requires
     bypasses-at-requires
     bits-from-requires
-    data-from-requires
+    relative-from-requires
     is-writing-requires
     wanted-requires
     wanted-requires-2

@@ -8,20 +8,17 @@ use Rattle.search_rows.proofs.table.rows_of.Statement.{statement}
 use Rattle.search_rows.proofs.table.rows_of.Tie as tie
 
 abbrev Inv-loop : tie.InvT-loop
-Inv-loop x t marks n owners roles kinds firsts processors addresses sizes bytes rows₀ o₀ rows o = Filled x t marks n rows o
+Inv-loop bytes x t marks n owners roles kinds firsts processors addresses sizes values rows₀ o₀ rows o = Filled bytes x t marks n rows o
 
 abbrev μ-loop : tie.MeasureT-loop
-μ-loop x t marks n owners roles kinds firsts processors addresses sizes bytes rows₀ o₀ rows o = n - o
-
-put-first-requires : tie.Need-put-first-requires Inv-loop μ-loop
-put-first-requires c κs = refl
+μ-loop bytes x t marks n owners roles kinds firsts processors addresses sizes values rows₀ o₀ rows o = n - o
 
 loop-holds : tie.Need-loop-holds Inv-loop μ-loop
-loop-holds c = filled-none (c .put-first .ensures .0) (c .put-first .ensures .1)
+loop-holds c = filled-none refl
 
 row-of-requires : tie.Need-row-of-requires Inv-loop μ-loop
 row-of-requires c κs =
-    let pre = c .before .before .before .before .before .before .before .before .before .before .before .before .before .before .before .before .before .before .before .before .before .pre in (
+    let pre = c .before .before .before .before .before .before .before .before .before .before .before .before .before .before .before .before .before .before .before .before .pre in (
       pre .0,
       pre .1,
       omega (arith, c .before .before .before .before .before .before .before .before .loop-test .taken, pre .0 .tabled .counts),
@@ -33,7 +30,7 @@ row-of-requires c κs =
         processors-are = refl;
         addresses-are = refl;
         sizes-are = refl;
-        bytes-are = refl;
+        values-are = refl;
       },
     )
 
@@ -44,7 +41,7 @@ slice-aggregate-put-row-2 : tie.Need-slice-aggregate-put-row-2 Inv-loop μ-loop
 slice-aggregate-put-row-2 c = search needs
 
 put-row-requires : tie.Need-put-row-requires Inv-loop μ-loop
-put-row-requires c κs = let pre = c .before .before .before .before .before .before .before .before .before .before .before .before .before .before .before .before .before .before .before .before .before .before .before .before .pre in (omega (arith, c .before .before .before .before .before .before .before .before .before .before .before .loop-test .taken, pre .0 .tabled .counts, pre .1 .operations-few), c .before .before .before .before .before .before .before .before .before .before .before .before .loop .inv .long, search needs)
+put-row-requires c κs = let pre = c .before .before .before .before .before .before .before .before .before .before .before .before .before .before .before .before .before .before .before .before .before .before .before .pre in (omega (arith, c .before .before .before .before .before .before .before .before .before .before .before .loop-test .taken, pre .0 .tabled .counts, pre .1 .operations-few), c .before .before .before .before .before .before .before .before .before .before .before .before .loop .inv .long, search needs)
 
 add-o : tie.Need-add-o Inv-loop μ-loop
 add-o c = search needs
@@ -53,13 +50,16 @@ loop-less : tie.Need-loop-less Inv-loop μ-loop
 loop-less c = omega (arith, c .before .before .before .before .before .before .before .before .before .before .before .before .before .loop-test .taken)
 
 loop-again : tie.Need-loop-again Inv-loop μ-loop
-loop-again c = let pre = c .before .before .before .before .before .before .before .before .before .before .before .before .before .before .before .before .before .before .before .before .before .before .before .before .before .before .pre in filled-more (c .before .before .before .before .before .before .before .before .before .before .before .before .before .before .loop .inv) (c .before .before .before .before .before .before .before .before .before .before .before .before .before .loop-test .taken) (omega (arith, pre .0 .tabled .counts, pre .1 .operations-few)) (c .before .before .before .before .row-of .result) (c .before .before .before .before .row-of .ensures) (c .before .put-row .ensures)
+loop-again c = let pre = c .before .before .before .before .before .before .before .before .before .before .before .before .before .before .before .before .before .before .before .before .before .before .before .before .before .pre in filled-more (c .before .before .before .before .before .before .before .before .before .before .before .before .before .before .loop .inv) (c .before .before .before .before .before .before .before .before .before .before .before .before .before .loop-test .taken) (omega (arith, pre .0 .tabled .counts, pre .1 .operations-few)) (c .before .before .before .before .row-of .result) (c .before .before .before .before .row-of .ensures) (c .before .put-row .ensures)
 
 known-data-requires : tie.Need-known-data-requires Inv-loop μ-loop
 known-data-requires c κs = search needs
 
+known-bytes-requires : tie.Need-known-bytes-requires Inv-loop μ-loop
+known-bytes-requires c κs = search needs
+
 returns : tie.Need-returns Inv-loop μ-loop
-returns c = let pre = c .before .before .before .before .before .before .before .before .before .before .before .before .before .before .pre in filled (c .before .before .loop .inv) (c .before .loop-test .left) (pre .0) (pre .0 .tabled .counts) (c .known-data .ensures .0) (c .known-data .ensures .1)
+returns c = let pre = c .before .before .before .before .before .before .before .before .before .before .before .before .before .before .pre in filled (c .before .before .before .loop .inv) (c .before .before .loop-test .left) (pre .0) (pre .0 .tabled .counts) (c .before .known-data .ensures) (c .known-bytes .ensures)
 
 pub rows-of-spec : {M : Type 1} → statement M
 rows-of-spec =
@@ -67,7 +67,6 @@ rows-of-spec =
     (tie.spec
     Inv-loop
     μ-loop
-    put-first-requires
     loop-holds
     row-of-requires
     slice-aggregate-put-row
@@ -77,4 +76,5 @@ rows-of-spec =
     loop-less
     loop-again
     known-data-requires
+    known-bytes-requires
     returns)
