@@ -1,9 +1,9 @@
 // The search call: the record's questions, those of the buffer and the saved position, then the search.
 ghost use mathlib.Core.Path.{_≡_};
 ghost use mathlib.Core.Bool.{true};
-ghost use Prim.Native.Nat.{_≤_};
+ghost use Prim.Native.Nat.{ℕ, _≤_};
 ghost use lib.ListN.{length, take};
-ghost use mathlib.Core.List.{[]};
+ghost use mathlib.Core.List.{List, []};
 ghost use Rattle.base.specs.Lists.{distinct};
 ghost use Rattle.relation_links.specs.Compiled.{Compiled};
 ghost use Rattle.model.specs.Calls.{says, searchPosition, searchSaved, searchReply, searchCall};
@@ -73,7 +73,7 @@ fn search_on(
     saved: usize,
     allowance: u32,
 ) -> SearchReply
-    requires { ⌜ Accepted (executionOf (now bytes) x) × Compiled (now bytes) x t (now marks) ⌝ }
+    requires { ⌜ Accepted (executionOf (now bytes) x) × ((others : List ℕ) → Compiled others x t (now marks)) ⌝ }
     requires { ⌜ (saved ≤ t .count) × (t .count ≤ length (now buffer)) × (distinct (t .count) [] (take saved (now buffer)) ≡ true) ⌝ }
     ensures { λ r. ⌜ replyOf r (now (buffer .exit)) ≡ searchReply saved (now (buffer .entry)) (searchPosition (executionOf (now (bytes .entry)) x) (take saved (now (buffer .entry))) allowance) ⌝ }
 {

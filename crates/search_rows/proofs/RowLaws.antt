@@ -30,7 +30,7 @@ use Rattle.search_constraints.proofs.PartnerLaws.{partner-means}
 use Rattle.search_constraints.proofs.OwnedLaws.{each-linked}
 use Rattle.search_meaning.proofs.Owners.{numbered-in}
 use Rattle.search_meaning.proofs.Bytes.{fits-line}
-use Rattle.search_rows.specs.Lent.{Lent}
+use Rattle.search_rows.specs.Lent.{Lent, InLines}
 
 -- what a role writes
 pub writing-LV : (role : ℕ) → role ≡ 1 → true ≡ writes role
@@ -59,30 +59,29 @@ wanted-bit : (b c : Bool) (word i : ℕ) → bit word i ≡ c → bit (cond b wo
 wanted-bit true c word i h = h
 wanted-bit false c word i h = zero-has i
 
--- an owner's access stays in its line
-pub owner-fits : {bytes : List ℕ} {x : Execution} {t : Operations} {marks : List (List ℕ)} → Compiled bytes x t marks → Accepted (executionOf bytes x) → (o : ℕ) → o < operations (executionOf bytes x)
-    → {owners roles kinds firsts processors addresses sizes values : List ℕ} → Lent x t owners roles kinds firsts processors addresses sizes values
-    → (w : ℕ) → w ≡ getD owners o 0 → (w < 40) × (getD addresses w 0 % 8 + getD sizes w 0 ≤ 8)
-unfolding instructionAt
-owner-fits {bytes} {x} {t} {marks} h accepted o low {owners} {roles} {kinds} {firsts} {processors} {addresses} {sizes} {values} lent w is =
-    let there : getD (t .owners) o 0 < x .instructions .count = owner-there h o (omega (arith, h .tabled .counts)) in
+-- an owner is an instruction
+pub owner-few : {bytes : List ℕ} {x : Execution} {t : Operations} {marks : List (List ℕ)} → Compiled bytes x t marks → Accepted (executionOf bytes x) → (o : ℕ) → o < t .count
+    → {owners roles kinds firsts processors addresses : List ℕ} → Lent x t owners roles kinds firsts processors addresses
+    → (w : ℕ) → w ≡ getD owners o 0 → (w < 40) × (w < x .instructions .count)
+owner-few {bytes} {x} h accepted o low lent w is =
+    let there = owner-there h o low in
     let l : w < x .instructions .count = omega (arith, is ∙ ap (λ (own : List ℕ). getD own o 0) (lent .owners-are)) in
-    let fits : getD (x .instructions .addresses) w 0 % 8 + getD (x .instructions .sizes) w 0 ≤ 8 =
-    fits-line (each-in (Sound (executionOf bytes x .processors) (length (executionOf bytes x .lines))) (accepted .sound) (numbered-in (record { bytes = bytes; execution = x; operations = t; marks = marks; rows = [] }) w l)) in (
-      omega (arith, few-instructions bytes x accepted),
-      subst (λ (n : ℕ). n ≤ 8) (ap₂ (λ (from long : List ℕ). getD from w 0 % 8 + getD long w 0) (sym (lent .addresses-are)) (sym (lent .sizes-are))) fits,
-    )
+    (omega (arith, few-instructions bytes x accepted), l)
 
-module _ {bytes : List ℕ} {x : Execution} {t : Operations} {marks : List (List ℕ)} (h : Compiled bytes x t marks) (accepted : Accepted (executionOf bytes x)) (o : ℕ) (low : o < operations (executionOf bytes x))
-    {owners roles kinds firsts processors addresses sizes values : List ℕ} (lent : Lent x t owners roles kinds firsts processors addresses sizes values) where
+-- accesses stay in their lines
+pub in-lines : (bytes : List ℕ) (x : Execution) → Accepted (executionOf bytes x) → InLines (x .instructions)
+unfolding instructionAt
+in-lines bytes x accepted w l =
+    fits-line (each-in (Sound (executionOf bytes x .processors) (length (executionOf bytes x .lines))) (accepted .sound)
+    (numbered-in (record { bytes = bytes; execution = x; operations = record { count = 0; owners = []; roles = [] }; marks = []; rows = [] }) w l))
+
+module _ {bytes : List ℕ} {x : Execution} {t : Operations} {marks : List (List ℕ)} (h : Compiled bytes x t marks) (accepted : Accepted (executionOf bytes x)) (o : ℕ) (there : o < t .count)
+    {owners roles kinds firsts processors addresses : List ℕ} (lent : Lent x t owners roles kinds firsts processors addresses) where
   abbrev owner : ℕ
   owner = getD (t .owners) o 0
 
   abbrev role : ℕ
   role = getD (t .roles) o 0
-
-  there : o < t .count
-  there = omega (arith, h .tabled .counts)
 
   -- what the sets hold of an operation of instruction w with a role, by the kinds, first operations, processors and addresses of the instructions
   abbrev linkedSome : ℕ → List ℕ → List ℕ → List ℕ → ℕ → ℕ → Bool

@@ -39,13 +39,13 @@ pub fn bits_from(place: usize, size: usize) -> u64
 pub fn relative_from(
     bytes: &[u8],
     count: usize,
-    values: &[u8; DATA_STRIDE * MOST_INSTRUCTIONS],
+    data: &[u8; DATA_STRIDE * MOST_INSTRUCTIONS],
     w: InstructionNo,
     address: usize,
     size: usize,
 ) -> u64
     requires { ⌜ (count ≤ 8) × (w .0 < 40) × (address < 256) × (address % 8 + size ≤ 8) ⌝ }
-    ensures { λ r. ⌜ ((i : ℕ) → i < 64 → bit r i ≡ (leb (address % 8) (i / 8) && ltb (i / 8) (address % 8 + size) && bit (relative (getD (now (values .entry)) (8 * w .0 + (i / 8 - address % 8)) 0) (initialOf (now (bytes .entry)) count (8 * (address / 8) + i / 8))) (i % 8))) ⌝ }
+    ensures { λ r. ⌜ ((i : ℕ) → i < 64 → bit r i ≡ (leb (address % 8) (i / 8) && ltb (i / 8) (address % 8 + size) && bit (relative (getD (now («data» .entry)) (8 * w .0 + (i / 8 - address % 8)) 0) (initialOf (now (bytes .entry)) count (8 * (address / 8) + i / 8))) (i % 8))) ⌝ }
 {
     let at = DATA_STRIDE * w.0;
     let place = address % 8;
@@ -53,7 +53,7 @@ pub fn relative_from(
     for j in 0..size {
         let here = address + j;
         let initial = initial_byte(bytes, count, here);
-        word = with_byte(word, values[at + j] ^ initial, place + j);
+        word = with_byte(word, data[at + j] ^ initial, place + j);
     }
     word
 }

@@ -1,17 +1,15 @@
 // The row of one operation: seventeen words.
 ghost use mathlib.Core.Path.{_≡_};
 ghost use mathlib.Core.Bool.{true, cond};
+ghost use mathlib.Core.List.{List};
 ghost use Prim.Native.Nat.{ℕ, _+_, _-_, _<_};
 ghost use lib.ListN.{getD};
 ghost use lib.Dec.{eqb};
-ghost use Rattle.model.specs.Execution.{operations};
 ghost use Rattle.model.specs.Accepted.{Accepted};
 ghost use Rattle.record_decoded.specs.Decoded.{executionOf};
 ghost use Rattle.relation_links.specs.Compiled.{Compiled};
 ghost use Rattle.search_admit.specs.Rows.{writes, visibleAt, ownAt, RowOf};
-ghost use Rattle.search_rows.specs.Lent.{Lent};
-use crate::line::bits_from;
-use crate::line::relative_from;
+ghost use Rattle.search_rows.specs.Lent.{Lent, Bits, Values};
 use record_decoded::kind::ROLE_LV;
 use record_decoded::kind::ROLE_R;
 use record_decoded::kind::ROLE_RV;
@@ -19,7 +17,6 @@ use record_decoded::kind::Role;
 use record_decoded::kind::kind_of;
 use record_decoded::kind::number_of;
 use record_decoded::position::Position;
-use record_decoded::types::DATA_STRIDE;
 use record_decoded::types::Execution;
 use record_decoded::types::InstructionNo;
 use record_decoded::types::MOST_INSTRUCTIONS;
@@ -91,9 +88,8 @@ fn word_of(role: u8, processor: usize, line: usize) -> usize
     visible_at(wide(role - ROLE_RV), line)
 }
 
-// The row of operation o, by the record and the arrays of the operations and the instructions, that are lent for all rows.
-pub fn row_of<'a, 'b>(
-    bytes: &'b [u8],
+// The row of operation o, by the arrays of the operations and the instructions and the instructions' words, that are lent for all rows. Only the words hang on the initial bytes.
+pub fn row_of<'a>(
     x: Execution,
     t: Operations,
     marks: &'a [[u16; MOST_INSTRUCTIONS]; MOST_INSTRUCTIONS],
@@ -103,15 +99,14 @@ pub fn row_of<'a, 'b>(
     firsts: &'a [u16; MOST_INSTRUCTIONS],
     processors: &'a [u8; MOST_INSTRUCTIONS],
     addresses: &'a [u8; MOST_INSTRUCTIONS],
-    sizes: &'a [u8; MOST_INSTRUCTIONS],
-    values: &'a [u8; DATA_STRIDE * MOST_INSTRUCTIONS],
+    bits: &'a [u64; MOST_INSTRUCTIONS],
+    values: &'a [u64; MOST_INSTRUCTIONS],
     o: OperationNo,
 ) -> [u64; ROW]
-    requires { ⌜ Compiled (now bytes) x t (now marks) × Accepted (executionOf (now bytes) x) × (o .0 < operations (executionOf (now bytes) x)) × Lent x t (now owners) (now roles) (now kinds) (now firsts) (now processors) (now addresses) (now sizes) (now values) ⌝ }
-    ensures { λ r. ⌜ RowOf x t (now (marks .entry)) (o .0) (now (bytes .entry)) (λ (f : ℕ). getD r f 0) ⌝ }
+    requires { ⌜ ((bytes : List ℕ) → Compiled bytes x t (now marks)) × ((bytes : List ℕ) → Accepted (executionOf bytes x)) × (o .0 < t .count) × Lent x t (now owners) (now roles) (now kinds) (now firsts) (now processors) (now addresses) × Bits x (now bits) ⌝ }
+    ensures { λ r. ⌜ ((bytes : List ℕ) → Values bytes x (now (values .entry)) → RowOf x t (now (marks .entry)) (o .0) bytes (λ (f : ℕ). getD r f 0)) ⌝ }
 {
     let every = x.processors;
-    let lines = x.lines;
     let n = x.instructions.count;
     let number = o.0;
     let w = wide(owners[number]);
@@ -120,9 +115,7 @@ pub fn row_of<'a, 'b>(
     let first = wide16(firsts[w]);
     let processor = wide(processors[w]);
     let address = wide(addresses[w]);
-    let size = wide(sizes[w]);
     let line = address / 8;
-    let place = address % 8;
     let preds = preds_at(
         n,
         every,
@@ -144,15 +137,15 @@ pub fn row_of<'a, 'b>(
         InstructionNo(w),
         role,
     );
-    let bits = bits_from(place, size);
-    let data = relative_from(bytes, lines.count, values, InstructionNo(w), address, size);
+    let covered = bits[w];
+    let value = values[w];
     let writing = is_writing(role);
     let reading = role == ROLE_R;
-    let written_bits = wanted(writing, bits);
-    let written_data = wanted(writing, data);
+    let written_bits = wanted(writing, covered);
+    let written_data = wanted(writing, value);
     let written_word = word_of(role, processor, line) as u64;
-    let read_bits = wanted(reading, bits);
-    let read_data = wanted(reading, data);
+    let read_bits = wanted(reading, covered);
+    let read_data = wanted(reading, value);
     let visible_word = visible_at(processor, line) as u64;
     let own_word = own_at(processor, line) as u64;
     let own_rv = number_of(OperationNo(first), kind, Role::RV(processor));

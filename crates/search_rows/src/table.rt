@@ -1,6 +1,7 @@
 // All rows.
 ghost use mathlib.Core.Path.{_≡_};
-ghost use Prim.Native.Nat.{_*_, _<_};
+ghost use mathlib.Core.List.{List};
+ghost use Prim.Native.Nat.{ℕ, _*_, _<_};
 ghost use lib.ListN.{length};
 ghost use Rattle.model.specs.Accepted.{Accepted};
 ghost use Rattle.record_decoded.specs.Decoded.{executionOf};
@@ -9,6 +10,8 @@ ghost use Rattle.search_admit.specs.Rows.{rowLength, tableLength, Bytes, RowsMe
 ghost use Rattle.search_rows.specs.Puts.{Put};
 use crate::line::known_bytes;
 use crate::row::row_of;
+use crate::words::all_bits;
+use crate::words::all_values;
 use record_decoded::types::Execution;
 use record_decoded::types::MOST_INSTRUCTIONS;
 use record_decoded::types::OperationNo;
@@ -32,8 +35,8 @@ fn known_data(x: Execution)
     ensures { λ _. ⌜ Bytes (x .instructions .bytes) ⌝ }
 {
     let is = x.instructions;
-    let values = is.bytes;
-    known_bytes(&values);
+    let data = is.bytes;
+    known_bytes(&data);
 }
 
 // What is compiled of an execution.
@@ -43,7 +46,7 @@ pub fn rows_of(
     t: Operations,
     marks: &[[u16; MOST_INSTRUCTIONS]; MOST_INSTRUCTIONS],
 ) -> [u64; TABLE]
-    requires { ⌜ Compiled (now bytes) x t (now marks) × Accepted (executionOf (now bytes) x) ⌝ }
+    requires { ⌜ ((others : List ℕ) → Compiled others x t (now marks)) × Accepted (executionOf (now bytes) x) ⌝ }
     ensures { λ r. ⌜ RowsMean (now (bytes .entry)) x t (now (marks .entry)) r ⌝ }
 {
     let n = t.count;
@@ -54,12 +57,11 @@ pub fn rows_of(
     let firsts = is.firsts;
     let processors = is.processors;
     let addresses = is.addresses;
-    let sizes = is.sizes;
-    let values = is.bytes;
+    let bits = all_bits(x);
+    let values = all_values(bytes, x);
     let mut rows = [0u64; TABLE];
     for o in 0..n {
         let row = row_of(
-            bytes,
             x,
             t,
             marks,
@@ -69,7 +71,7 @@ pub fn rows_of(
             &firsts,
             &processors,
             &addresses,
-            &sizes,
+            &bits,
             &values,
             OperationNo(o),
         );

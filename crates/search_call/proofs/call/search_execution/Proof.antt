@@ -73,7 +73,7 @@ search-on-requires : tie.Need-search-on-requires
 search-on-requires c κs =
     let a = c .before .before .before .before .before .before .before .before .before .before .before .before .args in
     let t = c .before .before .before .before .before .before .before .before .before .operations-of .ensures in (
-      (c .before .before .before .before .before .before .before .before .before .before .before .before .pre, compiled (a .bytes .now) (a .x) t (c .before .before .all-marks .ensures (a .bytes .now))),
+      (c .before .before .before .before .before .before .before .before .before .before .before .before .pre, λ others. compiled others (a .x) t (c .before .before .all-marks .ensures others)),
       (c .before .before .before .before .before .before .before .if2 .left, c .before .before .before .before .before .before .before .before .if1 .left, sym (c .before .before .before .before .before .place-all .ensures .told) ∙ not-false _ (c .before .before .before .if3 .left)),
     )
 

@@ -2,29 +2,28 @@
 use Prim.Native.Nat.{ℕ, _/_}
 use native.Mathlib.Omega.{arith}
 use mathlib.Core.Path.{ap, _∙_}
-use mathlib.Core.List.{List}
+use mathlib.Core.List.{List, []}
 use lib.ListN.{getD}
 use Rattle.record_decoded.specs.Kinds.{meant}
-use Rattle.relation_links.proofs.CompiledLaws.{few-processors, few-lines, few-instructions}
-use Rattle.search_rows.proofs.LineLaws.{covers-by, data-by}
-use Rattle.search_rows.proofs.RowLaws.{owner-fits, row-is}
+use Rattle.relation_links.proofs.CompiledLaws.{few-processors, few-instructions}
+use Rattle.search_rows.proofs.RowLaws.{owner-few, row-is}
 use borrow.Author.Needs.{needs}
 use Rattle.search_rows.proofs.row.row_of.Statement.{statement}
 use Rattle.search_rows.proofs.row.row_of.Tie as tie
 
 element-copy-out-wide : tie.Need-element-copy-out-wide
-element-copy-out-wide c = omega (arith, c .before .before .pre .2, c .before .before .pre .1 .operations-few)
+element-copy-out-wide c = omega (arith, c .pre .2, c .pre .0 [] .tabled .counts, c .pre .1 [] .operations-few)
 
 wide-requires : tie.Need-wide-requires
 wide-requires c κs = search needs
 
 element-copy-out-role : tie.Need-element-copy-out-role
-element-copy-out-role c = search needs
+element-copy-out-role c = let s = c .before .before in omega (arith, s .pre .2, s .pre .0 [] .tabled .counts, s .pre .1 [] .operations-few)
 
 element-copy-out-kind-of : tie.Need-element-copy-out-kind-of
 element-copy-out-kind-of c =
-    let s = c .before .before .before .before .before in
-    owner-fits (s .pre .0) (s .pre .1) (s .args .o .0) (s .pre .2) (s .pre .3) (c .before .wide .result) (c .before .wide .ensures .0) .0
+    let s = c .before .before .before in
+    owner-few (s .pre .0 []) (s .pre .1 []) (s .args .o .0) (s .pre .2) (s .pre .3) (c .before .wide .result) (c .before .wide .ensures .0) .0
 
 kind-of-requires : tie.Need-kind-of-requires
 kind-of-requires c κs = search needs
@@ -34,40 +33,32 @@ mul-wide16 c = search needs
 
 element-copy-out-wide16 : tie.Need-element-copy-out-wide16
 element-copy-out-wide16 c =
-    let s = c .before .before .before .before .before .before .before in
-    owner-fits (s .pre .0) (s .pre .1) (s .args .o .0) (s .pre .2) (s .pre .3) (c .before .before .before .wide .result) (c .before .before .before .wide .ensures .0) .0
+    let s = c .before .before .before .before .before in
+    owner-few (s .pre .0 []) (s .pre .1 []) (s .args .o .0) (s .pre .2) (s .pre .3) (c .before .before .before .wide .result) (c .before .before .before .wide .ensures .0) .0
 
 wide16-requires : tie.Need-wide16-requires
 wide16-requires c κs = search needs
 
 element-copy-out-wide-2 : tie.Need-element-copy-out-wide-2
 element-copy-out-wide-2 c =
-    let s = c .before .before .before .before .before .before .before .before .before in
-    owner-fits (s .pre .0) (s .pre .1) (s .args .o .0) (s .pre .2) (s .pre .3) (c .before .before .before .before .before .wide .result) (c .before .before .before .before .before .wide .ensures .0) .0
+    let s = c .before .before .before .before .before .before .before in
+    owner-few (s .pre .0 []) (s .pre .1 []) (s .args .o .0) (s .pre .2) (s .pre .3) (c .before .before .before .before .before .wide .result) (c .before .before .before .before .before .wide .ensures .0) .0
 
 wide-requires-2 : tie.Need-wide-requires-2
 wide-requires-2 c κs = search needs
 
 element-copy-out-wide-3 : tie.Need-element-copy-out-wide-3
 element-copy-out-wide-3 c =
-    let s = c .before .before .before .before .before .before .before .before .before .before .before in
-    owner-fits (s .pre .0) (s .pre .1) (s .args .o .0) (s .pre .2) (s .pre .3) (c .before .before .before .before .before .before .before .wide .result) (c .before .before .before .before .before .before .before .wide .ensures .0) .0
+    let s = c .before .before .before .before .before .before .before .before .before in
+    owner-few (s .pre .0 []) (s .pre .1 []) (s .args .o .0) (s .pre .2) (s .pre .3) (c .before .before .before .before .before .before .before .wide .result) (c .before .before .before .before .before .before .before .wide .ensures .0) .0
 
 wide-requires-3 : tie.Need-wide-requires-3
 wide-requires-3 c κs = search needs
 
-element-copy-out-wide-4 : tie.Need-element-copy-out-wide-4
-element-copy-out-wide-4 c =
-    let s = c .before .before .before .before .before .before .before .before .before .before .before .before .before in
-    owner-fits (s .pre .0) (s .pre .1) (s .args .o .0) (s .pre .2) (s .pre .3) (c .before .before .before .before .before .before .before .before .before .wide .result) (c .before .before .before .before .before .before .before .before .before .wide .ensures .0) .0
-
-wide-requires-4 : tie.Need-wide-requires-4
-wide-requires-4 c κs = search needs
-
 preds-at-requires : tie.Need-preds-at-requires
 preds-at-requires c κs =
-    let s = c .before .before .before .before .before .before .before .before .before .before .before .before .before .before .before in
-    (few-instructions (s .args .bytes .now) (s .args .x) (s .pre .1), few-processors (s .args .bytes .now) (s .args .x) (s .pre .1), owner-fits (s .pre .0) (s .pre .1) (s .args .o .0) (s .pre .2) (s .pre .3) (c .before .before .before .before .before .before .before .before .before .before .before .wide .result) (c .before .before .before .before .before .before .before .before .before .before .before .wide .ensures .0) .0)
+    let s = c .before .before .before .before .before .before .before .before .before .before .before in
+    (few-instructions [] (s .args .x) (s .pre .1 []), few-processors [] (s .args .x) (s .pre .1 []), owner-few (s .pre .0 []) (s .pre .1 []) (s .args .o .0) (s .pre .2) (s .pre .3) (c .before .before .before .before .before .before .before .before .before .wide .result) (c .before .before .before .before .before .before .before .before .before .wide .ensures .0) .0)
 
 mul-partners-at : tie.Need-mul-partners-at
 mul-partners-at c = search needs
@@ -77,39 +68,50 @@ mul-partners-at-2 c = search needs
 
 index-1-partners-at : tie.Need-index-1-partners-at
 index-1-partners-at c =
-    let s = c .before .before .before .before .before .before .before .before .before .before .before .before .before .before .before .before in
-    owner-fits (s .pre .0) (s .pre .1) (s .args .o .0) (s .pre .2) (s .pre .3) (c .before .before .before .before .before .before .before .before .before .before .before .before .wide .result) (c .before .before .before .before .before .before .before .before .before .before .before .before .wide .ensures .0) .0
+    let s = c .before .before .before .before .before .before .before .before .before .before .before .before in
+    owner-few (s .pre .0 []) (s .pre .1 []) (s .args .o .0) (s .pre .2) (s .pre .3) (c .before .before .before .before .before .before .before .before .before .before .wide .result) (c .before .before .before .before .before .before .before .before .before .before .wide .ensures .0) .0
 
 index-2-partners-at : tie.Need-index-2-partners-at
 index-2-partners-at c =
-    let s = c .before .before .before .before .before .before .before .before .before .before .before .before .before .before .before .before in
-    owner-fits (s .pre .0) (s .pre .1) (s .args .o .0) (s .pre .2) (s .pre .3) (c .before .before .before .before .before .before .before .before .before .before .before .before .wide .result) (c .before .before .before .before .before .before .before .before .before .before .before .before .wide .ensures .0) .0
+    let s = c .before .before .before .before .before .before .before .before .before .before .before .before in
+    owner-few (s .pre .0 []) (s .pre .1 []) (s .args .o .0) (s .pre .2) (s .pre .3) (c .before .before .before .before .before .before .before .before .before .before .wide .result) (c .before .before .before .before .before .before .before .before .before .before .wide .ensures .0) .0
 
 partners-at-requires : tie.Need-partners-at-requires
 partners-at-requires c κs =
-    let s = c .before .before .before .before .before .before .before .before .before .before .before .before .before .before .before .before .before in
-    (c .before .before .before .before .before .before .before .before .wide16 .ensures .1, few-processors (s .args .bytes .now) (s .args .x) (s .pre .1))
+    let s = c .before .before .before .before .before .before .before .before .before .before .before .before .before in
+    (c .before .before .before .before .before .before .wide16 .ensures .1, few-processors [] (s .args .x) (s .pre .1 []))
 
 awaited-at-requires : tie.Need-awaited-at-requires
 awaited-at-requires c κs =
-    let s = c .before .before .before .before .before .before .before .before .before .before .before .before .before .before .before .before .before .before in
-    (few-instructions (s .args .bytes .now) (s .args .x) (s .pre .1), owner-fits (s .pre .0) (s .pre .1) (s .args .o .0) (s .pre .2) (s .pre .3) (c .before .before .before .before .before .before .before .before .before .before .before .before .before .before .wide .result) (c .before .before .before .before .before .before .before .before .before .before .before .before .before .before .wide .ensures .0) .0)
+    let s = c .before .before .before .before .before .before .before .before .before .before .before .before .before .before in
+    (few-instructions [] (s .args .x) (s .pre .1 []), owner-few (s .pre .0 []) (s .pre .1 []) (s .args .o .0) (s .pre .2) (s .pre .3) (c .before .before .before .before .before .before .before .before .before .before .before .before .wide .result) (c .before .before .before .before .before .before .before .before .before .before .before .before .wide .ensures .0) .0)
 
 bypasses-at-requires : tie.Need-bypasses-at-requires
 bypasses-at-requires c κs =
-    let s = c .before .before .before .before .before .before .before .before .before .before .before .before .before .before .before .before .before .before .before in
-    (few-instructions (s .args .bytes .now) (s .args .x) (s .pre .1), owner-fits (s .pre .0) (s .pre .1) (s .args .o .0) (s .pre .2) (s .pre .3) (c .before .before .before .before .before .before .before .before .before .before .before .before .before .before .before .wide .result) (c .before .before .before .before .before .before .before .before .before .before .before .before .before .before .before .wide .ensures .0) .0)
+    let s = c .before .before .before .before .before .before .before .before .before .before .before .before .before .before .before in
+    (few-instructions [] (s .args .x) (s .pre .1 []), owner-few (s .pre .0 []) (s .pre .1 []) (s .args .o .0) (s .pre .2) (s .pre .3) (c .before .before .before .before .before .before .before .before .before .before .before .before .before .wide .result) (c .before .before .before .before .before .before .before .before .before .before .before .before .before .wide .ensures .0) .0)
 
-bits-from-requires : tie.Need-bits-from-requires
-bits-from-requires c κs =
-    let s = c .before .before .before .before .before .before .before .before .before .before .before .before .before .before .before .before .before .before .before .before in
-    omega (arith, owner-fits (s .pre .0) (s .pre .1) (s .args .o .0) (s .pre .2) (s .pre .3) (c .before .before .before .before .before .before .before .before .before .before .before .before .before .before .before .before .wide .result) (c .before .before .before .before .before .before .before .before .before .before .before .before .before .before .before .before .wide .ensures .0) .1, c .before .before .before .before .before .before .before .wide3 .ensures .0, c .before .before .before .before .before .wide4 .ensures .0)
+mul-covered : tie.Need-mul-covered
+mul-covered c =
+    let s = c .before .before .before .before .before .before .before .before .before .before .before .before .before .before .before .before in
+    let few = owner-few (s .pre .0 []) (s .pre .1 []) (s .args .o .0) (s .pre .2) (s .pre .3) (c .before .before .before .before .before .before .before .before .before .before .before .before .before .before .wide .result) (c .before .before .before .before .before .before .before .before .before .before .before .before .before .before .wide .ensures .0) .0 in
+    search needs
 
-relative-from-requires : tie.Need-relative-from-requires
-relative-from-requires c κs =
-    let s = c .before .before .before .before .before .before .before .before .before .before .before .before .before .before .before .before .before .before .before .before .before in
-    let fits = owner-fits (s .pre .0) (s .pre .1) (s .args .o .0) (s .pre .2) (s .pre .3) (c .before .before .before .before .before .before .before .before .before .before .before .before .before .before .before .before .before .wide .result) (c .before .before .before .before .before .before .before .before .before .before .before .before .before .before .before .before .before .wide .ensures .0) in
-    (few-lines (s .args .bytes .now) (s .args .x) (s .pre .1), fits .0, c .before .before .before .before .before .before .before .before .wide3 .ensures .1, omega (arith, fits .1, c .before .before .before .before .before .before .before .before .wide3 .ensures .0, c .before .before .before .before .before .before .wide4 .ensures .0))
+element-copy-out-covered : tie.Need-element-copy-out-covered
+element-copy-out-covered c =
+    let s = c .before .before .before .before .before .before .before .before .before .before .before .before .before .before .before .before in
+    owner-few (s .pre .0 []) (s .pre .1 []) (s .args .o .0) (s .pre .2) (s .pre .3) (c .before .before .before .before .before .before .before .before .before .before .before .before .before .before .wide .result) (c .before .before .before .before .before .before .before .before .before .before .before .before .before .before .wide .ensures .0) .0
+
+mul-value : tie.Need-mul-value
+mul-value c =
+    let s = c .before .before .before .before .before .before .before .before .before .before .before .before .before .before .before .before .before in
+    let few = owner-few (s .pre .0 []) (s .pre .1 []) (s .args .o .0) (s .pre .2) (s .pre .3) (c .before .before .before .before .before .before .before .before .before .before .before .before .before .before .before .wide .result) (c .before .before .before .before .before .before .before .before .before .before .before .before .before .before .before .wide .ensures .0) .0 in
+    search needs
+
+element-copy-out-value : tie.Need-element-copy-out-value
+element-copy-out-value c =
+    let s = c .before .before .before .before .before .before .before .before .before .before .before .before .before .before .before .before .before in
+    owner-few (s .pre .0 []) (s .pre .1 []) (s .args .o .0) (s .pre .2) (s .pre .3) (c .before .before .before .before .before .before .before .before .before .before .before .before .before .before .before .wide .result) (c .before .before .before .before .before .before .before .before .before .before .before .before .before .before .before .wide .ensures .0) .0
 
 is-writing-requires : tie.Need-is-writing-requires
 is-writing-requires c κs = search needs
@@ -121,7 +123,7 @@ wanted-requires-2 : tie.Need-wanted-requires-2
 wanted-requires-2 c κs = search needs
 
 word-of-requires : tie.Need-word-of-requires
-word-of-requires c κs = (c .before .before .before .before .before .before .before .before .before .before .before .before .before .before .wide2 .ensures .1, omega (arith, c .before .before .before .before .before .before .before .before .before .before .before .before .wide3 .ensures .1))
+word-of-requires c κs = (c .before .before .before .before .before .before .before .before .before .before .before .before .wide2 .ensures .1, omega (arith, c .before .before .before .before .before .before .before .before .before .before .wide3 .ensures .1))
 
 wanted-requires-3 : tie.Need-wanted-requires-3
 wanted-requires-3 c κs = search needs
@@ -130,16 +132,16 @@ wanted-requires-4 : tie.Need-wanted-requires-4
 wanted-requires-4 c κs = search needs
 
 visible-at-requires : tie.Need-visible-at-requires
-visible-at-requires c κs = (c .before .before .before .before .before .before .before .before .before .before .before .before .before .before .before .before .before .wide2 .ensures .1, omega (arith, c .before .before .before .before .before .before .before .before .before .before .before .before .before .before .before .wide3 .ensures .1))
+visible-at-requires c κs = (c .before .before .before .before .before .before .before .before .before .before .before .before .before .before .before .wide2 .ensures .1, omega (arith, c .before .before .before .before .before .before .before .before .before .before .before .before .before .wide3 .ensures .1))
 
 own-at-requires : tie.Need-own-at-requires
-own-at-requires c κs = (c .before .before .before .before .before .before .before .before .before .before .before .before .before .before .before .before .before .before .wide2 .ensures .1, omega (arith, c .before .before .before .before .before .before .before .before .before .before .before .before .before .before .before .before .wide3 .ensures .1))
+own-at-requires c κs = (c .before .before .before .before .before .before .before .before .before .before .before .before .before .before .before .before .wide2 .ensures .1, omega (arith, c .before .before .before .before .before .before .before .before .before .before .before .before .before .before .wide3 .ensures .1))
 
 number-of-requires : tie.Need-number-of-requires
-number-of-requires c κs = (c .before .before .before .before .before .before .before .before .before .before .before .before .before .before .before .before .before .before .before .before .before .wide16 .ensures .1, omega (arith, c .before .before .before .before .before .before .before .before .before .before .before .before .before .before .before .before .before .before .before .wide2 .ensures .1))
+number-of-requires c κs = (c .before .before .before .before .before .before .before .before .before .before .before .before .before .before .before .before .before .before .before .wide16 .ensures .1, omega (arith, c .before .before .before .before .before .before .before .before .before .before .before .before .before .before .before .before .before .wide2 .ensures .1))
 
 number-of-requires-2 : tie.Need-number-of-requires-2
-number-of-requires-2 c κs = (c .before .before .before .before .before .before .before .before .before .before .before .before .before .before .before .before .before .before .before .before .before .before .wide16 .ensures .1, omega arith)
+number-of-requires-2 c κs = (c .before .before .before .before .before .before .before .before .before .before .before .before .before .before .before .before .before .before .before .before .wide16 .ensures .1, omega arith)
 
 number-or-own-requires : tie.Need-number-or-own-requires
 number-or-own-requires c κs = search needs
@@ -149,19 +151,17 @@ number-or-own-requires-2 c κs = search needs
 
 returns : tie.Need-returns
 returns c =
-    let s = c .before .before .before .before .before .before .before .before .before .before .before .before .before .before .before .before .before .before .before .before .before .before .before .before .before .before .before .before .before .before .before .before .before .before in
+    let s = c .before .before .before .before .before .before .before .before .before .before .before .before .before .before .before .before .before .before .before .before .before .before .before .before .before .before .before .before .before .before in
     let g = s .args in
     let pre = s .pre in
     let lent = pre .3 in
-    let w = c .before .before .before .before .before .before .before .before .before .before .before .before .before .before .before .before .before .before .before .before .before .before .before .before .before .before .before .before .before .before .wide .result in
-    let address = c .before .before .before .before .before .before .before .before .before .before .before .before .before .before .before .before .before .before .before .before .before .wide3 .ensures .0 ∙ ap (λ (own : List ℕ). getD own w 0) (lent .addresses-are) in
-    let size = c .before .before .before .before .before .before .before .before .before .before .before .before .before .before .before .before .before .before .before .wide4 .ensures .0 ∙ ap (λ (own : List ℕ). getD own w 0) (lent .sizes-are) in
-    row-is (pre .0) (pre .1) (g .o .0) (pre .2) lent _ w (c .before .before .before .before .before .before .before .before .before .before .before .before .before .before .before .before .before .before .before .before .before .before .before .before .before .wide16 .result) (c .before .before .before .before .before .before .before .before .before .before .before .before .before .before .before .before .before .before .before .before .before .before .before .wide2 .result) (c .before .before .before .before .before .before .before .before .before .before .before .before .before .before .before .before .before .before .before .before .before .wide3 .result / 8) (meant (c .before .before .before .before .before .before .before .before .before .before .before .before .before .before .before .before .before .before .before .before .before .before .before .before .before .before .before .kind-of .result))
-    (c .before .before .before .before .before .before .before .before .before .before .before .before .before .before .before .before .before .before .before .before .before .before .before .before .before .before .before .before .before .before .wide .ensures .0 ∙ ap (λ (own : List ℕ). getD own (g .o .0) 0) (lent .owners-are)) (c .before .before .before .before .before .before .before .before .before .before .before .before .before .before .before .before .before .before .before .before .before .before .before .before .before .wide16 .ensures .0) (c .before .before .before .before .before .before .before .before .before .before .before .before .before .before .before .before .before .before .before .before .before .before .before .before .before .before .before .kind-of .ensures) (c .before .before .before .before .before .before .before .before .before .before .before .before .before .before .before .before .before .before .before .before .before .before .before .wide2 .ensures .0)
-    (ap (λ (a : ℕ). a / 8) (c .before .before .before .before .before .before .before .before .before .before .before .before .before .before .before .before .before .before .before .before .before .wide3 .ensures .0))
+    let w = c .before .before .before .before .before .before .before .before .before .before .before .before .before .before .before .before .before .before .before .before .before .before .before .before .before .before .before .before .wide .result in
+    let few = owner-few (pre .0 []) (pre .1 []) (g .o .0) (pre .2) lent w (c .before .before .before .before .before .before .before .before .before .before .before .before .before .before .before .before .before .before .before .before .before .before .before .before .before .before .before .before .wide .ensures .0) .1 in
+    λ bytes words. row-is (pre .0 bytes) (pre .1 bytes) (g .o .0) (pre .2) lent _ w (c .before .before .before .before .before .before .before .before .before .before .before .before .before .before .before .before .before .before .before .before .before .before .before .wide16 .result) (c .before .before .before .before .before .before .before .before .before .before .before .before .before .before .before .before .before .before .before .before .before .wide2 .result) (c .before .before .before .before .before .before .before .before .before .before .before .before .before .before .before .before .before .before .before .wide3 .result / 8) (meant (c .before .before .before .before .before .before .before .before .before .before .before .before .before .before .before .before .before .before .before .before .before .before .before .before .before .kind-of .result))
+    (c .before .before .before .before .before .before .before .before .before .before .before .before .before .before .before .before .before .before .before .before .before .before .before .before .before .before .before .before .wide .ensures .0 ∙ ap (λ (own : List ℕ). getD own (g .o .0) 0) (lent .owners-are)) (c .before .before .before .before .before .before .before .before .before .before .before .before .before .before .before .before .before .before .before .before .before .before .before .wide16 .ensures .0) (c .before .before .before .before .before .before .before .before .before .before .before .before .before .before .before .before .before .before .before .before .before .before .before .before .before .kind-of .ensures) (c .before .before .before .before .before .before .before .before .before .before .before .before .before .before .before .before .before .before .before .before .before .wide2 .ensures .0)
+    (ap (λ (a : ℕ). a / 8) (c .before .before .before .before .before .before .before .before .before .before .before .before .before .before .before .before .before .before .before .wide3 .ensures .0))
     (c .before .before .before .before .before .before .before .before .before .before .before .before .before .before .before .before .before .before .preds-at .ensures) (c .before .before .before .before .before .before .before .before .before .before .before .before .before .before .before .before .partners-at .ensures) (c .before .before .before .before .before .before .before .before .before .before .before .before .before .before .before .awaited-at .ensures) (c .before .before .before .before .before .before .before .before .before .before .before .before .before .before .bypasses-at .ensures)
-    (c .before .before .before .before .before .before .before .before .before .before .before .before .before .bits-from .result) (c .before .before .before .before .before .before .before .before .before .before .before .before .relative-from .result)
-    (λ i l. c .before .before .before .before .before .before .before .before .before .before .before .before .before .bits-from .ensures i l ∙ covers-by (g .x) w address size i) (λ i l. c .before .before .before .before .before .before .before .before .before .before .before .before .relative-from .ensures i l ∙ data-by (g .x) w address size (g .bytes .now) (lent .values-are) i)
+    (getD (g .bits .now) w 0) (getD (g .values .now) w 0) (λ i l. pre .4 w i few l) (λ i l. words w i few l)
     (c .before .before .before .before .before .before .before .before .before .before .before .is-writing .result) (c .before .before .before .before .before .before .before .before .before .before .before .is-writing .ensures)
     (c .before .before .before .before .before .before .before .before .before .before .wanted .ensures) (c .before .before .before .before .before .before .before .before .before .wanted2 .ensures) (c .before .before .before .before .before .before .before .before .word-of .ensures) (c .before .before .before .before .before .before .before .wanted3 .ensures) (c .before .before .before .before .before .before .wanted4 .ensures) (c .before .before .before .before .before .visible-at .ensures .0) (c .before .before .before .before .own-at .ensures .0)
     (c .before .before .before .number-of .result .0) (c .before .before .number-of2 .result .0) (c .before .before .before .number-of .ensures) (c .before .before .number-of2 .ensures)
@@ -183,8 +183,6 @@ row-of-spec =
     wide-requires-2
     element-copy-out-wide-3
     wide-requires-3
-    element-copy-out-wide-4
-    wide-requires-4
     preds-at-requires
     mul-partners-at
     mul-partners-at-2
@@ -193,8 +191,10 @@ row-of-spec =
     partners-at-requires
     awaited-at-requires
     bypasses-at-requires
-    bits-from-requires
-    relative-from-requires
+    mul-covered
+    element-copy-out-covered
+    mul-value
+    element-copy-out-value
     is-writing-requires
     wanted-requires
     wanted-requires-2
