@@ -221,7 +221,7 @@ module _ {n : ℕ} {xs places : List ℕ} (h : Placed n xs places) where
             (latest-all (x .instructions) load address false (initialOf bytes (x .lines .count) address))
 
   -- one byte of a load
-  sight-by : (bytes : List ℕ) (x : Execution) (load k : ℕ) → broken xs (sees (sight bytes x load (instructionAt (x .instructions) load .address + k))) ≡ sightBroken bytes x places load k
+  pub sight-by : (bytes : List ℕ) (x : Execution) (load k : ℕ) → broken xs (sees (sight bytes x load (instructionAt (x .instructions) load .address + k))) ≡ sightBroken bytes x places load k
   unfolding broken sightBroken
   sight-by bytes x load k =
       ap₂ (λ (s t : Bool). s && not t)

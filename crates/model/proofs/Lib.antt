@@ -10,5 +10,6 @@ pub mod Accepted
 pub mod Numbers
 pub mod Roles
 pub mod Uncacheable
+pub mod Unread
 pub mod Empty
 pub mod Quoted

@@ -178,7 +178,7 @@ unfolding lineOf
 old-line x h = λ i. record { attribute = old-attribute (getD x 0 0) h i; initial = drop 1 x }
 
 -- a line is the next nine bytes
-line-came : (bytes : List ℕ) (l : Line) (r : List ℕ) → readLine bytes ≡ found l r → (lineOf (take 9 bytes) ≡ l) × (drop 9 bytes ≡ r)
+pub line-came : (bytes : List ℕ) (l : Line) (r : List ℕ) → readLine bytes ≡ found l r → (lineOf (take 9 bytes) ≡ l) × (drop 9 bytes ≡ r)
 unfolding readLine
 line-came bytes l r h =
     step (item 9 bytes) _ l r h (λ x b1 e1 h1.

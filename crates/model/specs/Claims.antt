@@ -1,5 +1,5 @@
 -- Claims about the definitions that a reader may quote.
-use Prim.Native.Nat.{ℕ, suc, _+_, _*_, _≤_, _<_}
+use Prim.Native.Nat.{ℕ, suc, _+_, _*_, _/_, _%_, _≤_, _<_}
 use mathlib.Core.Path.{_≡_}
 use mathlib.Core.Bool.{Bool, true, _&&_, _||_}
 use mathlib.Core.List.{List, [], _∷_, _++_, map, List·Memᴰ}
@@ -7,9 +7,9 @@ use mathlib.Core.Logic.{_↔_}
 use lib.ListN.{length, getD, take, set, replicate}
 use Rattle.base.specs.Lists.{member, distinct}
 use Rattle.base.specs.Lex.{Less}
-use Rattle.model.specs.Execution.{Kind, isLoad, isStore, isAcquire, isRelease, isFence, Attribute, WB, UC, WC, attributeNumber, attributeOf, Line, Execution, Operation, operations}
+use Rattle.model.specs.Execution.{Kind, isLoad, isStore, isAcquire, isRelease, isFence, Attribute, WB, UC, WC, attributeNumber, attributeOf, Line, Instruction, Execution, Operation, operations}
 use Rattle.model.specs.Questions.{at, lineLength, question2, question3, question4, lineOf}
-use Rattle.model.specs.Rules.{isRorLV, earlier, link8, inUC, link13, Claim, must, linksOf, rules, keeps, consistent}
+use Rattle.model.specs.Rules.{isRorLV, earlier, link8, inUC, link13, Claim, must, sees, linksOf, sightOf, rules, broken, keeps, consistent}
 use Rattle.model.specs.ProgramOrder.{marks}
 use Rattle.model.specs.Search.{allowed, prefixes, after}
 use Rattle.model.specs.Calls.{says, refuses, readAll, judgeOrder, judgeCall, Legal, searchSaved, searchReply, searchCall, done, tableMarks, tableReply, tableCall}
@@ -140,3 +140,21 @@ OldRecords =
     (bytes : List ℕ) (e : Execution) → readAll bytes ≡ says e
     → ((k : ℕ) → k < length (e .lines) → attributeByte bytes k ≤ 2)
     → OldAnswers bytes e
+
+-- the place of an address's initial byte in a record: a line's attribute stands before its initial bytes
+abbrev pub initialPlace : ℕ → ℕ
+initialPlace a = 3 + lineLength * (a / 8) + a % 8
+
+-- Two accepted records that differ in initial bytes at most, and not in that of address b: a byte of the record that is no other address's initial byte is the same.
+pub record DifferElsewhere (b : ℕ) (bytes others : List ℕ) (e d : Execution) : Type 0 where
+  pub accepted : readAll bytes ≡ says e
+  pub others-accepted : readAll others ≡ says d
+  pub same-length : length bytes ≡ length others
+  pub same-else : (i : ℕ) → ((a : ℕ) → a < 8 * length (e .lines) → i ≡ initialPlace a → a ≡ b) → getD bytes i 0 ≡ getD others i 0
+
+-- P4, of the definitions: the records have the same instructions, and what rule 11 asks of a load's byte at address b is answered alike for every prefix.
+abbrev pub OneInitialByte : Type 0
+OneInitialByte =
+    (b : ℕ) (bytes others : List ℕ) (e d : Execution) → DifferElsewhere b bytes others e d
+    → (e .instructions ≡ d .instructions)
+    × ((l : Instruction) (xs : List ℕ) → broken xs (sees (sightOf e l b)) ≡ broken xs (sees (sightOf d l b)))

@@ -52,11 +52,15 @@ module _ (rows : List ℕ) (lo hi : ℕ) where
   unfoldable pub localBit : ℕ → ℕ → Bool
   localBit x i = anyBelow 128 (λ m. pending x m && bit (writtenBits rows m) i)
 
-  -- rule 11: each bit that x reads is as recorded
+  -- rule 11: where x reads a bit, it is as recorded
+  abbrev pub bitRecorded : List ℕ → ℕ → ℕ → Bool
+  bitRecorded words x i =
+      not (bit (readBits rows x) i)
+      || bothOrNeither (cond (localBit x i) (bit (getD words (ownWord rows x) 0) i) (bit (getD words (visibleWord rows x) 0) i)) (bit (readData rows x) i)
+
+  -- so are all its bits
   unfoldable pub readsRecorded : List ℕ → ℕ → Bool
-  readsRecorded words x =
-      allBelow 64 (λ i. not (bit (readBits rows x) i)
-      || bothOrNeither (cond (localBit x i) (bit (getD words (ownWord rows x) 0) i) (bit (getD words (visibleWord rows x) 0) i)) (bit (readData rows x) i))
+  readsRecorded words x = allBelow 64 (bitRecorded words x)
 
 -- what must stand before x stands
 abbrev pub ready : List ℕ → ℕ → ℕ → ℕ → Bool

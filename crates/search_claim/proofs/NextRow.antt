@@ -1,16 +1,16 @@
 -- The rows of K2 meet the hypotheses of `NextPrefix`: what is asked of all numbers below a bound is one computed test.
-use Prim.Native.Nat.{ℕ, zero, suc, _+_, _*_, _/_, _%_, _<_, _≤_}
+use Prim.Native.Nat.{ℕ, zero, suc, _<_, _≤_}
 use native.Mathlib.Omega.{arith}
 use native.Mathlib.Decide.{decLt}
 use mathlib.Core.Path.{_≡_, refl, sym, _∙_}
 use mathlib.Core.Bool.{Bool, true, false, Bool·beq, false≢true}
 use mathlib.Core.List.{List, [], _∷_}
-use lib.ListN.{getD, replicate}
+use lib.ListN.{replicate}
 use lib.Dec.{eqb, ltb}
 use borrow.Author.Tests.{eqb-true, ltb-true}
 use Rattle.base.specs.Lists.{all, any, keep, when, for, count, below, member, distinct}
 use Rattle.base.specs.Below.{allBelow, anyBelow}
-use Rattle.base.specs.Bits.{packedOn, packed, bit}
+use Rattle.base.specs.Bits.{packedOn, packed}
 use Rattle.base.specs.Lex.{lexLess}
 use Rattle.base.proofs.Bools.{beq-same, and-parts, is-false}
 use Rattle.base.proofs.Lists.{member-in, distinct-in}
@@ -39,7 +39,7 @@ use Rattle.search_claim.proofs.Next.{next-prefix}
 -- Computed tests
 
 -- two tests are the same below a bound
-same : (p q : ℕ → Bool) (n : ℕ) → allBelow n (λ i. Bool·beq (p i) (q i)) ≡ true → (i : ℕ) → i < n → p i ≡ q i
+pub same : (p q : ℕ → Bool) (n : ℕ) → allBelow n (λ i. Bool·beq (p i) (q i)) ≡ true → (i : ℕ) → i < n → p i ≡ q i
 same p q n t i h = beq-same (p i) (q i) (all-at (λ i. Bool·beq (p i) (q i)) n t i h)
 
 -- two tests of two numbers, the first number up to n
@@ -51,12 +51,12 @@ same-to p q n m t i j h = same (p i) (q i) m (all-at (λ i. allBelow m (λ j. Bo
 equal : (f g : ℕ → ℕ) (n : ℕ) → allBelow n (λ i. eqb (f i) (g i)) ≡ true → (i : ℕ) → i < n → f i ≡ g i
 equal f g n t i h = eqb-true (f i) (g i) (all-at (λ i. eqb (f i) (g i)) n t i h)
 
-equal-two : (f g : ℕ → ℕ → ℕ) (n m : ℕ) → allBelow n (λ i. allBelow m (λ j. eqb (f i j) (g i j))) ≡ true
+pub equal-two : (f g : ℕ → ℕ → ℕ) (n m : ℕ) → allBelow n (λ i. allBelow m (λ j. eqb (f i j) (g i j))) ≡ true
     → (i j : ℕ) → i < n → j < m → f i j ≡ g i j
 equal-two f g n m t i j h = equal (f i) (g i) m (all-at (λ i. allBelow m (λ j. eqb (f i j) (g i j))) n t i h) j
 
 -- a list has bytes
-bytes-are : (l : List ℕ) → all (λ b. ltb b 256) l ≡ true → Bytes l
+pub bytes-are : (l : List ℕ) → all (λ b. ltb b 256) l ≡ true → Bytes l
 unfolding all
 bytes-are [] h j = omega arith
 bytes-are (b ∷ l) h zero = ltb-true b 256 (and-parts (ltb b 256) (all (λ b. ltb b 256) l) h .0)

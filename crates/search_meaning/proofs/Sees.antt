@@ -124,7 +124,7 @@ module _ {t : Tables} (h : TablesMean t) (accepted : Accepted (executionOf (t .b
         ∙ sym (ap (λ (v : ℕ). bit v k) (xor-self (initialByte e b)) ∙ zero-has k)
 
     -- what is visible, and what the own processor wrote
-    visible-bit : bit (getD words (visibleWord (t .rows) x) 0) i ≡ of (lastByte (map (λ w. (w .rv, w .wrote)) (sight .writers)) (sight .initial) xs)
+    pub visible-bit : bit (getD words (visibleWord (t .rows) x) 0) i ≡ of (lastByte (map (λ w. (w .rv, w .wrote)) (sight .writers)) (sight .initial) xs)
     unfolding sightOf
     visible-bit =
         ap (λ (c : ℕ). bit (getD words c 0) i) visible-word
@@ -133,7 +133,7 @@ module _ {t : Tables} (h : TablesMean t) (accepted : Accepted (executionOf (t .b
         firstWords (initialByte e b) refl (first-bit (visibleAt (load .processor) (b / 8)) (omega (arith, line-low, processor-low)))
         ∙ ap (λ (l : List (ℕ × ℕ)). of (lastByte l (initialByte e b) xs)) (sym (map-map (λ w. (w .rv, w .wrote)) _ (keep (λ w. accesses w b) (stores e))))
 
-    own-bit : bit (getD words (ownWord (t .rows) x) 0) i ≡ of (lastByte (map (λ w. (w .lv, w .wrote)) (keep (λ w. w .own) (sight .writers))) (sight .initial) xs)
+    pub own-bit : bit (getD words (ownWord (t .rows) x) 0) i ≡ of (lastByte (map (λ w. (w .lv, w .wrote)) (keep (λ w. w .own) (sight .writers))) (sight .initial) xs)
     unfolding sightOf
     own-bit =
         ap (λ (c : ℕ). bit (getD words c 0) i) own-word

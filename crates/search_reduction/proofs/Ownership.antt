@@ -78,6 +78,9 @@ module _ (e : Execution) where
   unfolding allOperations operationsOf
   operation-in {i} m k = in-for (operationsOf (e .processors)) m (Memᴰ·map (operationOf i) k)
 
+  pub R-in : {l : Instruction} → List·Memᴰ l (loads e) → List·Memᴰ (operationOf l R) (allOperations e)
+  R-in {l} m = operation-in (is-load m .0) (R-role (e .processors) (l .kind) (is-load m .1))
+
   pub LV-in : {w : Instruction} → List·Memᴰ w (stores e) → List·Memᴰ (operationOf w LV) (allOperations e)
   LV-in {w} m = operation-in (is-store m .0) (LV-role (e .processors) (w .kind) (is-store m .1))
 

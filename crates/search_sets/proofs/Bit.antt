@@ -39,11 +39,6 @@ pub differ : Bool → Bool → Bool
 differ true b = not b
 differ false b = b
 
-pub differ-same : (b : Bool) → differ b b ≡ false
-unfolding differ
-differ-same true = refl
-differ-same false = refl
-
 pub differ-cancel : (a b c : Bool) → differ a c ≡ differ b c → a ≡ b
 unfolding differ
 differ-cancel true true c h = refl

@@ -1,5 +1,4 @@
 -- Past the lines and past the record there is no byte; else it is the one of its address.
-use native.Mathlib.Omega.{arith}
 use mathlib.Core.Path.{sym, _∙_}
 use lib.ListN.{List·getD-eq-default}
 use borrow.Author.Needs.{needs}

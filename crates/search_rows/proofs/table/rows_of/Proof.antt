@@ -2,7 +2,6 @@
 use Prim.Native.Nat.{_-_, _<_}
 use native.Mathlib.Omega.{arith}
 use mathlib.Core.Path.{refl}
-use mathlib.Core.List.{[]}
 use Rattle.relation_links.proofs.CompiledLaws.{few-lines, few-instructions, accepted-anyhow}
 use Rattle.search_rows.proofs.RowLaws.{in-lines}
 use Rattle.search_rows.proofs.TableLaws.{Filled, filled-none, filled-more, filled}

@@ -1,0 +1,49 @@
+-- P4, of the tests of one byte of a load that the judge and the search make. (`OneInitialByte` in `model` says it of the definitions.)
+use Prim.Native.Nat.{ℕ, _-_, _/_, _%_, _<_}
+use mathlib.Core.Path.{_≡_}
+use mathlib.Core.Bool.{true}
+use mathlib.Core.List.{List, [], List·Memᴰ}
+use lib.ListN.{getD}
+use Rattle.base.specs.Lists.{distinct}
+use Rattle.base.specs.Bits.{bit}
+use Rattle.model.specs.Execution.{Instruction, R, numberOf, loads, operations}
+use Rattle.model.specs.Rules.{accesses}
+use Rattle.model.specs.Claims.{DifferElsewhere}
+use Rattle.record_decoded.specs.declared.types.Execution.{Execution}
+use Rattle.record_decoded.specs.Decoded.{executionOf}
+use Rattle.relation_links.specs.declared.operations.Operations.{Operations}
+use Rattle.relation_places.specs.Places.{Placed}
+use Rattle.judge_sights.specs.Sights.{sightBroken}
+use Rattle.search_admit.specs.Rows.{readBits, readData, visibleWord, ownWord, wordsAfter, RowsMean}
+use Rattle.search_admit.specs.Fits.{bitRecorded, Standing}
+
+-- The judge's test of the load's byte at address b, for the places of every prefix
+abbrev pub JudgedAlike : ℕ → List ℕ → List ℕ → Execution → Execution → Instruction → Type 0
+JudgedAlike b bytes others x y l =
+    (n : ℕ) (xs places : List ℕ) → Placed n xs places
+    → sightBroken bytes x places (l .number) (b - l .address) ≡ sightBroken others y places (l .number) (b - l .address)
+
+-- What two tables of rows have of a bit that operation o reads, behind the prefix xs: in its row, in the words of memory that it reads, and the test of the bit
+pub record SameBit (rows others xs : List ℕ) (lo hi o i : ℕ) : Type 0 where
+  pub read : bit (readBits rows o) i ≡ bit (readBits others o) i
+  pub recorded : bit (readData rows o) i ≡ bit (readData others o) i
+  pub visible : bit (getD (wordsAfter rows xs) (visibleWord rows o) 0) i ≡ bit (getD (wordsAfter others xs) (visibleWord others o) 0) i
+  pub own : bit (getD (wordsAfter rows xs) (ownWord rows o) 0) i ≡ bit (getD (wordsAfter others xs) (ownWord others o) 0) i
+  pub tested : bitRecorded rows lo hi (wordsAfter rows xs) o i ≡ bitRecorded others lo hi (wordsAfter others xs) o i
+
+-- The search's test of the load's byte at address b, bit by bit, behind every prefix of different operations
+abbrev pub SearchedAlike : ℕ → List ℕ → List ℕ → Execution → Execution → Instruction → Type 0
+SearchedAlike b bytes others x y l =
+    (t u : Operations) (marks otherMarks : List (List ℕ)) (rows otherRows : List ℕ)
+    → RowsMean bytes x t marks rows → RowsMean others y u otherMarks otherRows
+    → (xs : List ℕ) → distinct (operations (executionOf bytes x)) [] xs ≡ true
+    → (lo hi : ℕ) → Standing xs lo hi
+    → (i : ℕ) → i < 64 → i / 8 ≡ b % 8 → SameBit rows otherRows xs lo hi (numberOf l R) i
+
+-- For every load and each of its bytes, in any two accepted records that differ only in other initial bytes, both tests give the same answer for every prefix.
+abbrev pub ReadValue : Type 0
+ReadValue =
+    (b : ℕ) (bytes others : List ℕ) (x y : Execution)
+    → DifferElsewhere b bytes others (executionOf bytes x) (executionOf others y)
+    → (l : Instruction) → List·Memᴰ l (loads (executionOf bytes x)) → accesses l b ≡ true
+    → JudgedAlike b bytes others x y l × SearchedAlike b bytes others x y l

@@ -1,0 +1,1 @@
+// The claim of the read-value test: no code, its proof alone.
