@@ -7,7 +7,7 @@ use crate::reference::record::{
     LINE_ITEM, LINE_SIZE, MAX_INSTRUCTIONS, MAX_LINES, MAX_OPERATIONS, MAX_PAIRS, MAX_PROCESSORS,
     QUESTIONS,
 };
-use crate::reference::rules::{byte_read, lowest_broken, Settled};
+use crate::reference::rules::{byte_read, links, lowest_broken, Settled};
 
 /// How large an execution may become; one store fits in any case.
 #[derive(Clone, Copy, Debug)]
@@ -181,11 +181,16 @@ fn give_values(random: &mut Random, execution: &mut Execution) {
     if execution.operation_count() > MAX_TRIED || random.once_in(3) {
         return;
     }
-    grow(random, execution, MAX_OPERATIONS, true);
+    give_shown(random, execution);
     if !loads.is_empty() && !random.once_in(4) {
         let load = random.pick(&loads);
         guess_value(random, execution, load);
     }
+}
+
+/// Gives the loads the data that a random order shows them; with many operations it takes long to try.
+pub fn give_shown(random: &mut Random, execution: &mut Execution) {
+    grow(random, execution, MAX_OPERATIONS, true);
 }
 
 /// The load saw one overlapping store, or none, over the initial bytes; rarely something else.
@@ -255,6 +260,30 @@ pub fn consistent_prefix(random: &mut Random, execution: &Execution) -> Vec<u8> 
 pub fn order(random: &mut Random, count: usize) -> Vec<u8> {
     let mut order: Vec<u8> = (0..count as u8).collect();
     random.shuffle(&mut order);
+    order
+}
+
+/// All operations in a random order that keeps every link: rules 1 to 8 and 13 hold.
+pub fn linked_order(random: &mut Random, execution: &Execution) -> Vec<u8> {
+    let count = execution.operation_count();
+    let mut successors = vec![Vec::new(); count];
+    let mut awaited = vec![0; count];
+    for (a, b) in links(execution) {
+        successors[a].push(b);
+        awaited[b] += 1;
+    }
+    let mut open: Vec<usize> = (0..count).filter(|&b| awaited[b] == 0).collect();
+    let mut order = Vec::new();
+    while !open.is_empty() {
+        let next = open.swap_remove(random.below(open.len()));
+        order.push(next as u8);
+        for &b in &successors[next] {
+            awaited[b] -= 1;
+            if awaited[b] == 0 {
+                open.push(b);
+            }
+        }
+    }
     order
 }
 

@@ -2,6 +2,7 @@
 //! (`executions`), and beside the proved calls independent ones in plain Rust, written from the papers, that they are tested
 //! against (`reference`).
 
+pub mod answers;
 pub mod beside;
 pub mod examples;
 pub mod executions;

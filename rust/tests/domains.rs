@@ -1,12 +1,13 @@
 //! Peripheral domains of UC lines (document 02, P6): what they decide, what they do not, and that generated records have both.
 
-use oglindesh::beside::{chain_table, check, judge, search};
-use oglindesh::generate::{consistent_prefix, execution, order, Shape, ATTRIBUTES};
+use oglindesh::answers::answers;
+use oglindesh::beside::{judge, search};
+use oglindesh::generate::{consistent_prefix, execution, Shape, ATTRIBUTES};
 use oglindesh::random::Random;
 use oglindesh::reference::notation::uc;
 use oglindesh::reference::record::{Execution, Kind, DOMAINS};
 use oglindesh::reference::rules::{lowest_broken, JudgeAnswer};
-use oglindesh::reference::search::{SearchAnswer, SearchReply};
+use oglindesh::reference::search::SearchAnswer;
 use std::collections::BTreeSet;
 
 /// Two UC accesses of one program, by their numbers, and whether they are in one domain.
@@ -45,63 +46,6 @@ fn moved(e: &Execution, mut to: impl FnMut() -> u8) -> Execution {
         line.attribute = uc(to());
     }
     other
-}
-
-/// What table, search and judge say of a record that passes.
-#[derive(PartialEq, Eq, Debug)]
-struct Answers {
-    table: Vec<u8>,
-    /// Of a search in parts: each reply, and the buffer that it left.
-    search: Vec<(SearchReply, Vec<u8>)>,
-    judged: Vec<JudgeAnswer>,
-}
-
-impl Answers {
-    /// The order that the search found.
-    fn found(&self) -> Option<&[u8]> {
-        let (reply, buffer) = self.search.last()?;
-        (reply.answer == SearchAnswer::Allowed).then_some(buffer)
-    }
-}
-
-/// Steps of one record that are searched.
-const STEPS_EACH: u32 = 600;
-
-/// Makes all calls, with allowances and orders that the seed gives.
-fn answers(e: &Execution, seed: u64) -> Answers {
-    let mut random = Random::new(seed);
-    let (bytes, count) = (e.to_bytes(), e.operation_count());
-    let mut table = vec![9; count * count];
-    assert_eq!(check(&bytes), Ok(()));
-    assert_eq!(chain_table(&bytes, &mut table), Ok(()));
-    let mut answers = Answers {
-        table,
-        search: Vec::new(),
-        judged: Vec::new(),
-    };
-    let mut buffer = vec![255; count];
-    let (mut length, mut steps) = (0, 0);
-    while steps <= STEPS_EACH {
-        let allowance = random.pick(&[0, 1, 3, 20, 300]);
-        let reply = search(&bytes, &mut buffer, length, allowance);
-        answers.search.push((reply, buffer.clone()));
-        (length, steps) = (reply.length, steps + reply.steps);
-        if reply.answer != SearchAnswer::Unfinished {
-            break;
-        }
-    }
-    let mut orders: Vec<Vec<u8>> = (0..3).map(|_| order(&mut random, count)).collect();
-    if let Some(found) = answers.found() {
-        orders.push(found.to_vec());
-        for at in 1..count {
-            // Two neighbours of the legal order exchanged.
-            let mut other = found.to_vec();
-            other.swap(at - 1, at);
-            orders.push(other);
-        }
-    }
-    answers.judged = orders.iter().map(|order| judge(&bytes, order)).collect();
-    answers
 }
 
 /// Of every shape: lines of every attribute, and two UC accesses of one program on two lines, in one domain and in two.

@@ -35,6 +35,7 @@ fn document_02() {
     let names = [
         "nothing on one processor",
         "nothing on eight processors",
+        "initial bytes of their own addresses",
         "two device boards",
         "old records",
     ];
