@@ -3,6 +3,8 @@ use Prim.Native.Nat.{ℕ}
 use mathlib.Core.Bool.{true}
 use mathlib.Core.List.{List, [], _∷_, _++_}
 use mathlib.Core.Option.{some}
+use lib.ListN.{replicate}
+use Rattle.base.specs.Lists.{count}
 use Rattle.model.specs.Search.{allowed, forbidden}
 use Rattle.model.specs.Calls.{says, legal, breaks}
 use Rattle.model.specs.Courses.{proper, other}
@@ -18,6 +20,10 @@ nothing = recordOf (wb ∷ []) ([] ∷ [] ∷ []) []
 -- P6: load buffering, on these lines of x and y: ld x sees 1, st y=1; ld y sees 1, st x=1
 abbrev load-buffering : List ℕ → List ℕ → List ℕ
 load-buffering lineX lineY = two lineX lineY (ld x 1 ∷ st y 1 ∷ []) (ld y 1 ∷ st x 1 ∷ [])
+
+-- P4: one program on WB lines of x and y with the initial bytes 1 to 16
+abbrev counting : List (List ℕ) → List ℕ
+counting program = one (0 ∷ count 1 8) (0 ∷ count 9 8) program
 
 unfoldable pub requestTable : List Row
 requestTable =
@@ -40,6 +46,15 @@ requestTable =
       accepted = true;
       refused = true;
     })
+    -- P4: where no store wrote the byte, a load sees the initial byte of its own address; a store beside it changes nothing
+    ∷ judged (counting (ld 3 4 ∷ ld 12 13 ∷ [])) (1 ∷ 0 ∷ []) legal
+    ∷ judged (counting (ld 3 5 ∷ [])) (0 ∷ []) (breaks 11)
+    ∷ judged (counting (ld 3 12 ∷ [])) (0 ∷ []) (breaks 11)
+    ∷ judged (counting ((0 ∷ 12 ∷ 2 ∷ 13 ∷ 14 ∷ replicate 6 0) ∷ [])) (0 ∷ []) legal
+    ∷ judged (counting ((0 ∷ 12 ∷ 2 ∷ 13 ∷ 13 ∷ replicate 6 0) ∷ [])) (0 ∷ []) (breaks 11)
+    ∷ searched (counting (st 3 9 ∷ ld 4 5 ∷ [])) [] 1000 allowed 3 (0 ∷ 1 ∷ 2 ∷ [])
+    ∷ searched (counting (st 3 9 ∷ ld 4 4 ∷ [])) [] 1000 forbidden 2 []
+    ∷ searched (counting (st 3 9 ∷ ld 3 4 ∷ [])) [] 1000 forbidden 2 []
     -- P6: two UC accesses of one program in one domain are ordered by rule 13, in two they are not: judge, search and table
     ∷ judged (one (uc-of 1) (uc-of 1) (ld x 0 ∷ ld y 0 ∷ [])) (1 ∷ 0 ∷ []) (breaks 13)
     ∷ judged (one (uc-of 1) (uc-of 2) (ld x 0 ∷ ld y 0 ∷ [])) (1 ∷ 0 ∷ []) legal
