@@ -6,7 +6,7 @@ ghost use lib.ListN.{length, getD, set};
 ghost use Rattle.base.specs.Below.{allBelow, anyBelow};
 ghost use Rattle.base.specs.Bits.{bit};
 ghost use Rattle.search_sets.specs.Set.{holds};
-ghost use Rattle.search_admit.specs.Rows.{rowLength, field, writtenBits, writtenWord, localOf, wordsWith};
+ghost use Rattle.search_admit.specs.Rows.{rowLength, field, writtenBits, writtenWord, localOf, wordsWith, firstWords};
 ghost use lib.Dec.{ltb};
 ghost use Rattle.search_admit.specs.Fits.{bothOrNeither, waitsFor, refused, localBit, readsRecorded, enabled};
 use record_decoded::position::Position;
@@ -219,19 +219,17 @@ pub fn is_enabled(rows: &[u64; TABLE], words: &[u64; WORDS], stand: Set, x: Oper
     reads_right(rows, words, stand, x)
 }
 
-// Whether operation x is enabled before any operation stands: nothing must stand before it, and it reads what its own processor has not written.
-pub fn is_enabled_first(rows: &[u64; TABLE], words: &[u64; WORDS], x: OperationNo) -> bool
+// Whether operation x is enabled before any operation stands: nothing must stand before it, and what it reads is initial, so relative to the initial bytes 0.
+pub fn is_enabled_first(rows: &[u64; TABLE], x: OperationNo) -> bool
     requires { ⌜ x .0 < 128 ⌝ }
-    ensures { λ r. ⌜ r ≡ enabled (now (rows .entry)) 0 0 (now (words .entry)) (x .0) ⌝ }
+    ensures { λ r. ⌜ r ≡ enabled (now (rows .entry)) 0 0 firstWords (x .0) ⌝ }
 {
     let none = Set { lo: 0, hi: 0 };
     if !subset(set_of(rows, x, PREDS), none) {
         return false;
     }
-    let own = word_at(words, field_of(rows, x, OWN_WORD));
-    let visible = word_at(words, field_of(rows, x, VISIBLE_WORD));
     let bits = field_of(rows, x, READ_BITS);
-    agrees(own, visible, 0, field_of(rows, x, READ_DATA), bits)
+    agrees(0, 0, 0, field_of(rows, x, READ_DATA), bits)
 }
 
 // Writes what operation x writes, and answers with the word that was there.

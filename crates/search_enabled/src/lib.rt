@@ -6,7 +6,7 @@ ghost use lib.ListN.{length};
 ghost use lib.Dec.{eqb};
 ghost use Rattle.base.specs.Below.{anyBelow};
 ghost use Rattle.search_sets.specs.Set.{holds, setAt};
-ghost use Rattle.search_admit.specs.Rows.{localOf};
+ghost use Rattle.search_admit.specs.Rows.{localOf, firstWords};
 ghost use Rattle.search_admit.specs.Fits.{enabled, dueAfter};
 ghost use Rattle.search_enabled.specs.Affects.{writesWordOf, affects, Affecting, enabledAfter};
 use record_decoded::position::Position;
@@ -122,13 +122,13 @@ pub fn affected_by(n: usize, rows: &[u64; TABLE]) -> [u64; AFFECTED]
 }
 
 // The operations of n that are enabled before any stands.
-pub fn first_enabled(n: usize, rows: &[u64; TABLE], words: &[u64; WORDS]) -> Set
+pub fn first_enabled(n: usize, rows: &[u64; TABLE]) -> Set
     requires { ⌜ n ≤ 128 ⌝ }
-    ensures { λ r. ⌜ ((y : ℕ) → y < n → holds (r .lo) (r .hi) y ≡ enabled (now (rows .entry)) 0 0 (now (words .entry)) y) ⌝ }
+    ensures { λ r. ⌜ ((y : ℕ) → y < n → holds (r .lo) (r .hi) y ≡ enabled (now (rows .entry)) 0 0 firstWords y) ⌝ }
 {
     let mut all = Set { lo: 0, hi: 0 };
     for y in 0..n {
-        let now = is_enabled_first(rows, words, OperationNo(y));
+        let now = is_enabled_first(rows, OperationNo(y));
         all = insert_if(all, y, now);
     }
     all

@@ -26,8 +26,7 @@ use Rattle.search_walk.proofs.Search.{open-tells}
 use Rattle.search_resume.specs.Replays.{Replayed}
 
 -- the sets before any operation
-module _ {n : ℕ} (rows words : List ℕ) (few : n ≤ 128) (first : words ≡ firstWords) (lo hi : ℕ)
-    (able : (a : ℕ) → a < n → holds lo hi a ≡ enabled rows 0 0 words a) where
+module _ {n : ℕ} (rows : List ℕ) (few : n ≤ 128) (lo hi : ℕ) (able : (a : ℕ) → a < n → holds lo hi a ≡ enabled rows 0 0 firstWords a) where
   abbrev none : List ℕ
   none = replicate 774 0
 
@@ -60,7 +59,6 @@ module _ {n : ℕ} (rows words : List ℕ) (few : n ≤ 128) (first : words ≡ 
     able = λ j a h l.
         subst (λ (i : ℕ). enables made i a ≡ (not (stands made i a) && enabled rows (low made i) (high made i) (wordsAfter rows (take i position)) a)) (let z : 0 ≡ j = omega arith in z)
         (enables-first a ∙ able a l
-        ∙ ap (λ (ws : List ℕ). enabled rows 0 0 ws a) first
         ∙ ap₂ (λ (u v : ℕ). enabled rows u v firstWords a) (sym made-low) (sym made-high)
         ∙ ap (λ (b : Bool). not b && enabled rows (low made 0) (high made 0) firstWords a) (sym (stood-none a)));
     due = λ j a h l.

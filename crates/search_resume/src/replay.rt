@@ -5,7 +5,6 @@ ghost use mathlib.Core.List.{List, []};
 ghost use Prim.Native.Nat.{ℕ, _≤_};
 ghost use lib.ListN.{length, take};
 ghost use Rattle.base.specs.Lists.{distinct};
-ghost use Rattle.search_admit.specs.Rows.{firstWords};
 ghost use Rattle.search_enabled.specs.Affects.{Affecting};
 ghost use Rattle.search_walk.specs.Walks.{Levels, Kept};
 ghost use Rattle.search_resume.specs.Replays.{Replayed};
@@ -26,11 +25,11 @@ use search_walk::SETS;
 use search_walk::enter;
 
 // The sets before any operation.
-pub fn first_level(n: usize, rows: &[u64; TABLE], words: &[u64; WORDS]) -> [u64; LEVELS]
-    requires { ⌜ (n ≤ 128) × (now words ≡ firstWords) ⌝ }
+pub fn first_level(n: usize, rows: &[u64; TABLE]) -> [u64; LEVELS]
+    requires { ⌜ n ≤ 128 ⌝ }
     ensures { λ r. ⌜ ((position : List ℕ) → Levels n (now (rows .entry)) position r 0) ⌝ }
 {
-    let enabled = first_enabled(n, rows, words);
+    let enabled = first_enabled(n, rows);
     let mut levels = [0u64; LEVELS];
     put(&mut levels, ENABLED, enabled);
     put(&mut levels, OPEN, enabled);

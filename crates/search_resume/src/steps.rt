@@ -150,7 +150,7 @@ pub fn search_from(
     let length = given.length;
     let mut places = [ABSENT; Position::LIMIT];
     let mut words = [0u64; WORDS];
-    let mut levels = first_level(n, rows, &words);
+    let mut levels = first_level(n, rows);
     let mut replaced = [0u64; Position::LIMIT];
     let consistent = replay(
         n,

@@ -1,4 +1,5 @@
 -- One operation after the other.
+use Rattle.search_admit.specs.Rows.{firstWords}
 use Rattle.search_admit.specs.Fits.{enabled}
 use Rattle.search_sets.proofs.Members.{Taken, taken-starts, taken-on, taken-ends, holds-none}
 use Rattle.search_sets.specs.Set.{holds}
@@ -11,10 +12,10 @@ use Rattle.search_enabled.proofs.first_enabled.Statement.{statement}
 use Rattle.search_enabled.proofs.first_enabled.Tie as tie
 
 abbrev Inv-loop : tie.InvT-loop
-Inv-loop n rows words all₀ y₀ all y = (y ≤ n) × Taken (holds 0 0) (enabled rows 0 0 words) (holds (all .lo) (all .hi)) y
+Inv-loop n rows all₀ y₀ all y = (y ≤ n) × Taken (holds 0 0) (enabled rows 0 0 firstWords) (holds (all .lo) (all .hi)) y
 
 abbrev μ-loop : tie.MeasureT-loop
-μ-loop n rows words all₀ y₀ all y = n - y
+μ-loop n rows all₀ y₀ all y = n - y
 
 loop-holds : tie.Need-loop-holds Inv-loop μ-loop
 loop-holds c =
@@ -42,7 +43,7 @@ returns : tie.Need-returns Inv-loop μ-loop
 returns c =
     λ y l.
     taken-ends (c .before .loop .inv .1) y (omega (arith, c .before .before .pre)) (omega (arith, c .loop-test .left))
-    ∙ ap (λ (b : Bool). b || enabled (c .before .before .args .rows .now) 0 0 (c .before .before .args .words .now) y) (holds-none y)
+    ∙ ap (λ (b : Bool). b || enabled (c .before .before .args .rows .now) 0 0 firstWords y) (holds-none y)
 
 pub first-enabled-spec : {M : Type 1} → statement M
 first-enabled-spec =

@@ -27,7 +27,7 @@ returns : tie.Need-returns
 returns c =
     let a = c .before .before .before .before .before .before .before .args in
     let e = c .before .before .before .before .before .before .first-enabled .result in
-    levels-none (a .rows .now) (a .words .now) (c .before .before .before .before .before .before .before .pre .0) (c .before .before .before .before .before .before .before .pre .1) (e .lo) (e .hi) (c .before .before .before .before .before .before .first-enabled .ensures) (c .before .put2 .ensures ∙ ap (λ (l : List ℕ). putAt l 2 (e .lo) (e .hi)) (c .before .before .before .before .put .ensures))
+    levels-none (a .rows .now) (c .before .before .before .before .before .before .before .pre) (e .lo) (e .hi) (c .before .before .before .before .before .before .first-enabled .ensures) (c .before .put2 .ensures ∙ ap (λ (l : List ℕ). putAt l 2 (e .lo) (e .hi)) (c .before .before .before .before .put .ensures))
 
 pub first-level-spec : {M : Type 1} → statement M
 first-level-spec =
