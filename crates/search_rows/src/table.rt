@@ -10,8 +10,7 @@ ghost use Rattle.search_admit.specs.Rows.{rowLength, tableLength, Bytes, RowsMe
 ghost use Rattle.search_rows.specs.Puts.{Put};
 use crate::line::known_bytes;
 use crate::row::row_of;
-use crate::words::all_bits;
-use crate::words::all_values;
+use crate::words::words_of;
 use record_decoded::types::Execution;
 use record_decoded::types::MOST_INSTRUCTIONS;
 use record_decoded::types::OperationNo;
@@ -57,8 +56,9 @@ pub fn rows_of(
     let firsts = is.firsts;
     let processors = is.processors;
     let addresses = is.addresses;
-    let bits = all_bits(x);
-    let values = all_values(bytes, x);
+    let words = words_of(bytes, x);
+    let bits = words.bits;
+    let values = words.values;
     let mut rows = [0u64; TABLE];
     for o in 0..n {
         let row = row_of(

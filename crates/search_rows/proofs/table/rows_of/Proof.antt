@@ -15,14 +15,9 @@ Inv-loop bytes x t marks n owners roles kinds firsts processors addresses bits v
 abbrev μ-loop : tie.MeasureT-loop
 μ-loop bytes x t marks n owners roles kinds firsts processors addresses bits values rows₀ o₀ rows o = n - o
 
-all-bits-requires : tie.Need-all-bits-requires Inv-loop μ-loop
-all-bits-requires c κs =
+words-of-requires : tie.Need-words-of-requires Inv-loop μ-loop
+words-of-requires c κs =
     let s = c .before .before .before .before .before .before .before .before in
-    (few-instructions (s .args .bytes .now) (s .args .x) (s .pre .1), in-lines (s .args .bytes .now) (s .args .x) (s .pre .1))
-
-all-values-requires : tie.Need-all-values-requires Inv-loop μ-loop
-all-values-requires c κs =
-    let s = c .before .before .before .before .before .before .before .before .before in
     (few-instructions (s .args .bytes .now) (s .args .x) (s .pre .1), few-lines (s .args .bytes .now) (s .args .x) (s .pre .1), in-lines (s .args .bytes .now) (s .args .x) (s .pre .1))
 
 loop-holds : tie.Need-loop-holds Inv-loop μ-loop
@@ -30,7 +25,7 @@ loop-holds c = filled-none refl
 
 row-of-requires : tie.Need-row-of-requires Inv-loop μ-loop
 row-of-requires c κs =
-    let s = c .before .before .before .before .before .before .before .before .before .before .before .before .before .before .before .before .before .before .before .before in (
+    let s = c .before .before .before .before .before .before .before .before .before .before .before .before .before .before .before .before .before .before .before .before .before in (
       s .pre .0,
       accepted-anyhow (s .args .bytes .now) (s .args .x) (s .pre .1),
       c .before .before .before .before .before .before .before .before .loop-test .taken,
@@ -42,7 +37,7 @@ row-of-requires c κs =
         processors-are = refl;
         addresses-are = refl;
       },
-      c .before .before .before .before .before .before .before .before .before .before .before .all-bits .ensures,
+      c .before .before .before .before .before .before .before .before .before .before .before .before .words-of .ensures .0,
     )
 
 slice-aggregate-put-row : tie.Need-slice-aggregate-put-row Inv-loop μ-loop
@@ -52,11 +47,11 @@ slice-aggregate-put-row-2 : tie.Need-slice-aggregate-put-row-2 Inv-loop μ-loop
 slice-aggregate-put-row-2 c = search needs
 
 put-row-requires : tie.Need-put-row-requires Inv-loop μ-loop
-put-row-requires c κs = let s = c .before .before .before .before .before .before .before .before .before .before .before .before .before .before .before .before .before .before .before .before .before .before .before in (omega (arith, c .before .before .before .before .before .before .before .before .before .before .before .loop-test .taken, s .pre .0 (s .args .bytes .now) .tabled .counts, s .pre .1 .operations-few), c .before .before .before .before .before .before .before .before .before .before .before .before .loop .inv .long, search needs)
+put-row-requires c κs = let s = c .before .before .before .before .before .before .before .before .before .before .before .before .before .before .before .before .before .before .before .before .before .before .before .before in (omega (arith, c .before .before .before .before .before .before .before .before .before .before .before .loop-test .taken, s .pre .0 (s .args .bytes .now) .tabled .counts, s .pre .1 .operations-few), c .before .before .before .before .before .before .before .before .before .before .before .before .loop .inv .long, search needs)
 
 add-o : tie.Need-add-o Inv-loop μ-loop
 add-o c =
-    let s = c .before .before .before .before .before .before .before .before .before .before .before .before .before .before .before .before .before .before .before .before .before .before .before .before .before in
+    let s = c .before .before .before .before .before .before .before .before .before .before .before .before .before .before .before .before .before .before .before .before .before .before .before .before .before .before in
     let few : c .before .before .before .before .before .before .before .before .before .before .before .before .before .before .loop .o < 128 = omega (arith, c .before .before .before .before .before .before .before .before .before .before .before .before .before .loop-test .taken, s .pre .0 (s .args .bytes .now) .tabled .counts, s .pre .1 .operations-few) in
     search needs
 
@@ -64,7 +59,7 @@ loop-less : tie.Need-loop-less Inv-loop μ-loop
 loop-less c = omega (arith, c .before .before .before .before .before .before .before .before .before .before .before .before .before .loop-test .taken)
 
 loop-again : tie.Need-loop-again Inv-loop μ-loop
-loop-again c = let s = c .before .before .before .before .before .before .before .before .before .before .before .before .before .before .before .before .before .before .before .before .before .before .before .before .before in filled-more (c .before .before .before .before .before .before .before .before .before .before .before .before .before .before .loop .inv) (c .before .before .before .before .before .before .before .before .before .before .before .before .before .loop-test .taken) (omega (arith, s .pre .0 (s .args .bytes .now) .tabled .counts, s .pre .1 .operations-few)) (c .before .before .before .before .row-of .result) (c .before .before .before .before .row-of .ensures _ (c .before .before .before .before .before .before .before .before .before .before .before .before .before .before .before .all-values .ensures)) (c .before .put-row .ensures)
+loop-again c = let s = c .before .before .before .before .before .before .before .before .before .before .before .before .before .before .before .before .before .before .before .before .before .before .before .before .before .before in filled-more (c .before .before .before .before .before .before .before .before .before .before .before .before .before .before .loop .inv) (c .before .before .before .before .before .before .before .before .before .before .before .before .before .loop-test .taken) (omega (arith, s .pre .0 (s .args .bytes .now) .tabled .counts, s .pre .1 .operations-few)) (c .before .before .before .before .row-of .result) (c .before .before .before .before .row-of .ensures _ (c .before .before .before .before .before .before .before .before .before .before .before .before .before .before .before .before .before .words-of .ensures .1)) (c .before .put-row .ensures)
 
 known-data-requires : tie.Need-known-data-requires Inv-loop μ-loop
 known-data-requires c κs = search needs
@@ -73,7 +68,7 @@ known-bytes-requires : tie.Need-known-bytes-requires Inv-loop μ-loop
 known-bytes-requires c κs = search needs
 
 returns : tie.Need-returns Inv-loop μ-loop
-returns c = let s = c .before .before .before .before .before .before .before .before .before .before .before .before .before .before in filled (c .before .before .before .loop .inv) (c .before .before .loop-test .left) (s .pre .0 _) (s .pre .0 _ .tabled .counts) (c .before .known-data .ensures) (c .known-bytes .ensures)
+returns c = let s = c .before .before .before .before .before .before .before .before .before .before .before .before .before .before .before in filled (c .before .before .before .loop .inv) (c .before .before .loop-test .left) (s .pre .0 _) (s .pre .0 _ .tabled .counts) (c .before .known-data .ensures) (c .known-bytes .ensures)
 
 pub rows-of-spec : {M : Type 1} → statement M
 rows-of-spec =
@@ -81,8 +76,7 @@ rows-of-spec =
     (tie.spec
     Inv-loop
     μ-loop
-    all-bits-requires
-    all-values-requires
+    words-of-requires
     loop-holds
     row-of-requires
     slice-aggregate-put-row
