@@ -105,7 +105,7 @@ fn stores_first(e: &Execution) -> Execution {
 }
 
 /// A generated execution, changed so that more loads see stored bytes beside initial ones, on up to eight lines whose initial
-/// bytes are all different. Once in three times a load saw the initial byte of another address.
+/// bytes are all different. Once in three times a load saw the initial byte of some address, mostly another.
 fn generated(random: &mut Random, shape: &Shape) -> Execution {
     let mut plain = execution(random, shape);
     if random.once_in(2) {

@@ -1,4 +1,4 @@
--- Rule 11 for one byte of a load, from the decoded arrays and a table of places.
+-- Rule 11 for one byte of a load, from the decoded arrays, the record's initial bytes and a table of places.
 use Prim.Native.Nat.{ℕ, _+_, _-_}
 use mathlib.Core.Bool.{Bool, not, cond, _&&_, _||_}
 use mathlib.Core.List.{List}

@@ -266,7 +266,7 @@ fn byte_read(
     latest_byte(is, places, load, address, local, initial)
 }
 
-// Whether the load stands and its byte k is not the one that the rule gives. Of the initial bytes, which stay in the record, it reads that of the byte's own address.
+// Whether the load stands and its byte k is not the one that the rule gives. Of the record's initial bytes it reads that of the byte's own address.
 fn sight_broken(
     bytes: &[u8],
     x: Execution,

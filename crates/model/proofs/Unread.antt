@@ -10,9 +10,9 @@ use borrow.Author.Tests.{ltb-true, ltb-false}
 use Rattle.base.specs.Lists.{keep}
 use Rattle.base.proofs.Bools.{split}
 use Rattle.model.specs.Execution.{Line, noLine, Instruction, Execution, isStore, R, LV, RV, numberOf, stores, lineAt, initialByte}
-use Rattle.model.specs.Questions.{found, byte, ask, many, question2, question3, question15, lineOf, readLine, readLines, readInstructions, readPairs, readRecord}
+use Rattle.model.specs.Questions.{initialPlace, found, byte, ask, many, question2, question3, question15, lineOf, readLine, readLines, readInstructions, readPairs, readRecord}
 use Rattle.model.specs.Rules.{accesses, byteSeen, byteWritten, Sight, sees, sightOf, broken}
-use Rattle.model.specs.Claims.{initialPlace, DifferElsewhere, OneInitialByte}
+use Rattle.model.specs.Claims.{DifferElsewhere, OneInitialByte}
 use Rattle.model.proofs.Accepted.{step, asked-on, byte-came, many-length, read-found}
 use Rattle.model.proofs.Uncacheable.{line-came}
 

@@ -1,5 +1,5 @@
 -- Claims about the definitions that a reader may quote.
-use Prim.Native.Nat.{ℕ, suc, _+_, _*_, _/_, _%_, _≤_, _<_}
+use Prim.Native.Nat.{ℕ, suc, _+_, _*_, _≤_, _<_}
 use mathlib.Core.Path.{_≡_}
 use mathlib.Core.Bool.{Bool, true, _&&_, _||_}
 use mathlib.Core.List.{List, [], _∷_, _++_, map, List·Memᴰ}
@@ -8,7 +8,7 @@ use lib.ListN.{length, getD, take, set, replicate}
 use Rattle.base.specs.Lists.{member, distinct}
 use Rattle.base.specs.Lex.{Less}
 use Rattle.model.specs.Execution.{Kind, isLoad, isStore, isAcquire, isRelease, isFence, Attribute, WB, UC, WC, attributeNumber, attributeOf, Line, Instruction, Execution, Operation, operations}
-use Rattle.model.specs.Questions.{at, lineLength, question2, question3, question4, lineOf}
+use Rattle.model.specs.Questions.{at, lineLength, initialPlace, question2, question3, question4, lineOf}
 use Rattle.model.specs.Rules.{isRorLV, earlier, link8, inUC, link13, Claim, must, sees, linksOf, sightOf, rules, broken, keeps, consistent}
 use Rattle.model.specs.ProgramOrder.{marks}
 use Rattle.model.specs.Search.{allowed, prefixes, after}
@@ -141,11 +141,7 @@ OldRecords =
     → ((k : ℕ) → k < length (e .lines) → attributeByte bytes k ≤ 2)
     → OldAnswers bytes e
 
--- the place of an address's initial byte in a record: a line's attribute stands before its initial bytes
-abbrev pub initialPlace : ℕ → ℕ
-initialPlace a = 3 + lineLength * (a / 8) + a % 8
-
--- Two accepted records that differ in initial bytes at most, and not in that of address b: a byte of the record that is no other address's initial byte is the same.
+-- Two accepted records of one length that have the same byte at every place but those of other addresses' initial bytes than b's
 pub record DifferElsewhere (b : ℕ) (bytes others : List ℕ) (e d : Execution) : Type 0 where
   pub accepted : readAll bytes ≡ says e
   pub others-accepted : readAll others ≡ says d

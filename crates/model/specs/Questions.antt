@@ -1,5 +1,5 @@
 -- The record is walked left to right: question 1 before each item, then the item's own questions. The first 'no' gives its number.
-use Prim.Native.Nat.{ℕ, zero, suc, _+_, _*_, _%_}
+use Prim.Native.Nat.{ℕ, zero, suc, _+_, _*_, _/_, _%_}
 use mathlib.Core.Bool.{Bool, true, false, not, cond, _&&_, _||_}
 use mathlib.Core.List.{List, [], _∷_, _++_, map}
 use lib.ListN.{length, getD, take, drop}
@@ -52,6 +52,10 @@ at x k = getD x k 0
 -- the bytes of a line, of an instruction and of a pair
 abbrev pub lineLength : ℕ
 lineLength = 9
+
+-- the place of an address's initial byte in a record: P, the count of lines and the line's attribute stand before it
+abbrev pub initialPlace : ℕ → ℕ
+initialPlace a = 3 + lineLength * (a / 8) + a % 8
 
 abbrev pub entryLength : ℕ
 entryLength = 11

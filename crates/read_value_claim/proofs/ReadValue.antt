@@ -31,7 +31,7 @@ use Rattle.search_admit.specs.Fits.{localBit, Standing}
 use Rattle.search_meaning.proofs.Tables.{Tables, TablesMean}
 use Rattle.search_meaning.proofs.Owners.{owner-is, by-number, number-low}
 use Rattle.search_meaning.proofs.Sees.{visible-bit, own-bit, seen-bit, recorded-bit, read-bit}
-use Rattle.read_value_claim.specs.ReadValue.{SameBit, ReadValue}
+use Rattle.read_value_claim.specs.ReadValue.{SameBit, OneInitialByteTested}
 
 -- The judge's test is rule 11's claim of the byte
 
@@ -117,13 +117,13 @@ module _ {b : ℕ} {bytes others : List ℕ} {e d : model.Execution} (h : Differ
   unfolding operations
   as-many = ap₂ operationCount (same-processors h) (same-instructions h)
 
-pub read-value : ReadValue
-read-value b bytes others x y h l ml reads = (
+pub one-initial-byte-tested : OneInitialByteTested
+one-initial-byte-tested b bytes others x y h l ml reads = (
   λ n xs places p.
       judged-by bytes x l ml b reads p
       ∙ ap (λ (s : Sight). broken xs (sees s)) (same-sight h l)
       ∙ sym (judged-by others y l (load-too h l ml) b reads p),
-  λ t u marks otherMarks rows otherRows m om xs different lo hi standing i small at.
+  λ t u marks otherMarks rows otherRows m om xs different lo hi standing i at.
       let e = executionOf bytes x in
       let d = executionOf others y in
       let one = searched-by {t = record { bytes = bytes; execution = x; operations = t; marks = marks; rows = rows }} m (read-accepted bytes e (h .accepted)) l ml b reads xs different lo hi standing i at in

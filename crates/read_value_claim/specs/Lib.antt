@@ -1,3 +1,3 @@
--- The claim of the read-value test, with rows that meet what is asked there.
+-- The claim of the read-value test, with records and rows that meet its hypotheses.
 pub mod ReadValue
 pub mod ReadValueRow

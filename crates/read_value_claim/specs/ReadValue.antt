@@ -1,5 +1,5 @@
 -- P4, of the tests of one byte of a load that the judge and the search make. (`OneInitialByte` in `model` says it of the definitions.)
-use Prim.Native.Nat.{ℕ, _-_, _/_, _%_, _<_}
+use Prim.Native.Nat.{ℕ, _-_, _/_, _%_}
 use mathlib.Core.Path.{_≡_}
 use mathlib.Core.Bool.{true}
 use mathlib.Core.List.{List, [], List·Memᴰ}
@@ -24,12 +24,12 @@ JudgedAlike b bytes others x y l =
     → sightBroken bytes x places (l .number) (b - l .address) ≡ sightBroken others y places (l .number) (b - l .address)
 
 -- What two tables of rows have of a bit that operation o reads, behind the prefix xs: in its row, in the words of memory that it reads, and the test of the bit
-pub record SameBit (rows others xs : List ℕ) (lo hi o i : ℕ) : Type 0 where
-  pub read : bit (readBits rows o) i ≡ bit (readBits others o) i
-  pub recorded : bit (readData rows o) i ≡ bit (readData others o) i
-  pub visible : bit (getD (wordsAfter rows xs) (visibleWord rows o) 0) i ≡ bit (getD (wordsAfter others xs) (visibleWord others o) 0) i
-  pub own : bit (getD (wordsAfter rows xs) (ownWord rows o) 0) i ≡ bit (getD (wordsAfter others xs) (ownWord others o) 0) i
-  pub tested : bitRecorded rows lo hi (wordsAfter rows xs) o i ≡ bitRecorded others lo hi (wordsAfter others xs) o i
+pub record SameBit (rows otherRows xs : List ℕ) (lo hi o i : ℕ) : Type 0 where
+  pub read : bit (readBits rows o) i ≡ bit (readBits otherRows o) i
+  pub recorded : bit (readData rows o) i ≡ bit (readData otherRows o) i
+  pub visible : bit (getD (wordsAfter rows xs) (visibleWord rows o) 0) i ≡ bit (getD (wordsAfter otherRows xs) (visibleWord otherRows o) 0) i
+  pub own : bit (getD (wordsAfter rows xs) (ownWord rows o) 0) i ≡ bit (getD (wordsAfter otherRows xs) (ownWord otherRows o) 0) i
+  pub tested : bitRecorded rows lo hi (wordsAfter rows xs) o i ≡ bitRecorded otherRows lo hi (wordsAfter otherRows xs) o i
 
 -- The search's test of the load's byte at address b, bit by bit, behind every prefix of different operations
 abbrev pub SearchedAlike : ℕ → List ℕ → List ℕ → Execution → Execution → Instruction → Type 0
@@ -38,11 +38,11 @@ SearchedAlike b bytes others x y l =
     → RowsMean bytes x t marks rows → RowsMean others y u otherMarks otherRows
     → (xs : List ℕ) → distinct (operations (executionOf bytes x)) [] xs ≡ true
     → (lo hi : ℕ) → Standing xs lo hi
-    → (i : ℕ) → i < 64 → i / 8 ≡ b % 8 → SameBit rows otherRows xs lo hi (numberOf l R) i
+    → (i : ℕ) → i / 8 ≡ b % 8 → SameBit rows otherRows xs lo hi (numberOf l R) i
 
 -- For every load and each of its bytes, in any two accepted records that differ only in other initial bytes, both tests give the same answer for every prefix.
-abbrev pub ReadValue : Type 0
-ReadValue =
+abbrev pub OneInitialByteTested : Type 0
+OneInitialByteTested =
     (b : ℕ) (bytes others : List ℕ) (x y : Execution)
     → DifferElsewhere b bytes others (executionOf bytes x) (executionOf others y)
     → (l : Instruction) → List·Memᴰ l (loads (executionOf bytes x)) → accesses l b ≡ true

@@ -1,29 +1,62 @@
--- Two records that meet the hypotheses of `OneInitialByte` and `ReadValue`, with their rows: K2 (one processor, st x=1, ld x sees 0) with 7 in x at the start,
--- and in the second record 9 in address 2 besides.
-use Prim.Native.Nat.{ℕ, _*_, _-_}
-use mathlib.Core.List.{List, [], _∷_, _++_}
-use lib.ListN.{set, replicate}
-use Rattle.model.specs.PaperTable.{k2}
-use Rattle.model.specs.Claims.{initialPlace, DifferElsewhere}
-use Rattle.record_decoded.specs.Decoded.{executionOf}
+-- Two records with their rows that meet the hypotheses of `OneInitialByte` and `OneInitialByteTested`: K2 (one processor, st x=1, ld x sees 0) with accesses of two
+-- bytes, so of addresses 0 and 1, and 7 in address 0 at the start. The second record has 9 in address 1, which the load reads too; b is address 0.
+use Prim.Native.Nat.{ℕ, _+_, _*_, _-_}
+use mathlib.Core.Path.{_≡_}
+use mathlib.Core.Bool.{true}
+use mathlib.Core.List.{List, [], _∷_, _++_, List·Memᴰ}
+use lib.ListN.{replicate}
+use Rattle.base.specs.Lists.{distinct}
+use Rattle.model.specs.Execution.{Instruction, loads, operations}
+use Rattle.model.specs.Rules.{accesses}
+use Rattle.model.specs.Notation.{recordOf}
+use Rattle.model.specs.Claims.{DifferElsewhere}
+use Rattle.record_decoded.specs.declared.types.Execution.{Execution}
+use Rattle.record_decoded.specs.Decoded.{instructionAt, executionOf}
+use Rattle.relation_places.specs.Places.{Placed}
 use Rattle.search_admit.specs.Rows.{rowLength, tableLength, RowsMean}
-use Rattle.search_claim.specs.NextRow.{k2Arrays, k2Operations, k2Marks}
+use Rattle.search_admit.specs.Fits.{Standing}
+use Rattle.search_claim.specs.NextRow.{k2Operations, k2Marks}
 
--- K2 with 7 in address 0 and v in address 2. The decoded arrays have no initial bytes: they are K2's.
-unfoldable pub k7 : ℕ → List ℕ
-k7 v = set (set k2 (initialPlace 0) 7) (initialPlace 2) v
+-- the record, with 7 and v at the start
+unfoldable pub wide : ℕ → List ℕ
+wide v = recordOf ((0 ∷ 7 ∷ v ∷ replicate 6 0) ∷ []) (((2 ∷ 0 ∷ 2 ∷ 1 ∷ replicate 7 0) ∷ (0 ∷ 0 ∷ 2 ∷ replicate 8 0) ∷ []) ∷ []) []
 
--- K2's rows but for words 9 and 12, what is written and what was seen: relative to 7, 1 is 6 and 0 is 7.
-unfoldable pub k7Rows : List ℕ
-k7Rows =
-    (0 ∷ 0 ∷ 0 ∷ 0 ∷ 0 ∷ 0 ∷ 0 ∷ 0 ∷ 255 ∷ 6 ∷ 64 ∷ 0 ∷ 0 ∷ 0 ∷ 64 ∷ 1 ∷ 0 ∷ [])
-    ++ (1 ∷ 0 ∷ 0 ∷ 0 ∷ 0 ∷ 0 ∷ 0 ∷ 0 ∷ 255 ∷ 6 ∷ 0 ∷ 0 ∷ 0 ∷ 0 ∷ 64 ∷ 1 ∷ 0 ∷ [])
-    ++ (1 ∷ 0 ∷ 0 ∷ 0 ∷ 0 ∷ 0 ∷ 2 ∷ 0 ∷ 0 ∷ 0 ∷ 127 ∷ 255 ∷ 7 ∷ 0 ∷ 64 ∷ 2 ∷ 2 ∷ [])
+-- The decoded arrays have no initial bytes: both records have these. Operations and marks are K2's.
+unfoldable pub wideArrays : Execution
+wideArrays = record {
+  processors = 1;
+  lines = record { count = 1; attributes = replicate 8 0 };
+  instructions = record {
+    count = 2;
+    operations = 3;
+    processors = replicate 40 0;
+    kinds = 2 ∷ 0 ∷ replicate 38 0;
+    addresses = replicate 40 0;
+    sizes = 2 ∷ 2 ∷ replicate 38 0;
+    firsts = 0 ∷ 2 ∷ replicate 38 0;
+    bytes = 1 ∷ replicate 319 0;
+  };
+  pairs = record { count = 0; earlier = replicate 40 0; later = replicate 40 0 };
+}
+
+-- K2's rows with two bytes. What is written and what was seen (words 9 and 12) are 1 and 0, then 0: relative to 7 and v they are 6 and 7, then v.
+unfoldable pub wideRows : ℕ → List ℕ
+wideRows v =
+    (0 ∷ 0 ∷ 0 ∷ 0 ∷ 0 ∷ 0 ∷ 0 ∷ 0 ∷ 65535 ∷ (6 + 256 * v) ∷ 64 ∷ 0 ∷ 0 ∷ 0 ∷ 64 ∷ 1 ∷ 0 ∷ [])
+    ++ (1 ∷ 0 ∷ 0 ∷ 0 ∷ 0 ∷ 0 ∷ 0 ∷ 0 ∷ 65535 ∷ (6 + 256 * v) ∷ 0 ∷ 0 ∷ 0 ∷ 0 ∷ 64 ∷ 1 ∷ 0 ∷ [])
+    ++ (1 ∷ 0 ∷ 0 ∷ 0 ∷ 0 ∷ 0 ∷ 2 ∷ 0 ∷ 0 ∷ 0 ∷ 127 ∷ 65535 ∷ (7 + 256 * v) ∷ 0 ∷ 64 ∷ 2 ∷ 2 ∷ [])
     ++ replicate (tableLength - 3 * rowLength) 0
 
--- x is address 0: the two records differ elsewhere, and have the same rows.
-abbrev pub ReadValueRow : Type 0
-ReadValueRow =
-    DifferElsewhere 0 (k7 0) (k7 9) (executionOf (k7 0) k2Arrays) (executionOf (k7 9) k2Arrays)
-    × RowsMean (k7 0) k2Arrays k2Operations k2Marks k7Rows
-    × RowsMean (k7 9) k2Arrays k2Operations k2Marks k7Rows
+abbrev pub theLoad : Instruction
+theLoad = instructionAt (wideArrays .instructions) 1
+
+-- The two records differ elsewhere; the load is one of theirs and reads address 0; behind the prefix 0, the store's LV, the words and the places are these.
+pub record ReadValueRow : Type 0 where
+  pub differ : DifferElsewhere 0 (wide 0) (wide 9) (executionOf (wide 0) wideArrays) (executionOf (wide 9) wideArrays)
+  pub loads-it : List·Memᴰ theLoad (loads (executionOf (wide 0) wideArrays))
+  pub reads-it : accesses theLoad 0 ≡ true
+  pub rows-mean : RowsMean (wide 0) wideArrays k2Operations k2Marks (wideRows 0)
+  pub other-rows-mean : RowsMean (wide 9) wideArrays k2Operations k2Marks (wideRows 9)
+  pub different : distinct (operations (executionOf (wide 0) wideArrays)) [] (0 ∷ []) ≡ true
+  pub standing : Standing (0 ∷ []) 1 0
+  pub placed : Placed 3 (0 ∷ []) (0 ∷ replicate 127 255)

@@ -11,6 +11,7 @@ use Rattle.base.proofs.Bools.{split}
 use Rattle.base.proofs.Lists.{getD-below}
 use Rattle.model.specs.Execution as model
 use Rattle.model.specs.Execution.{noLine, initialByte}
+use Rattle.model.specs.Questions.{initialPlace}
 use Rattle.record_decoded.specs.declared.types.Execution.{Execution}
 use Rattle.record_decoded.specs.Decoded.{decodedLine, linesOf, initialOf, executionOf}
 use Rattle.record_decoded.proofs.Arrays.{lines-length}
@@ -20,7 +21,7 @@ pub initial-past : (bytes : List ℕ) (count address : ℕ) → count ≤ addres
 unfolding initialOf
 initial-past bytes count address h = rw (le-ltb (address / 8) count h)
 
-pub initial-there : (bytes : List ℕ) (count address : ℕ) → address / 8 < count → getD bytes (3 + 9 * (address / 8) + address % 8) 0 ≡ initialOf bytes count address
+pub initial-there : (bytes : List ℕ) (count address : ℕ) → address / 8 < count → getD bytes (initialPlace address) 0 ≡ initialOf bytes count address
 unfolding initialOf
 initial-there bytes count address h = rw (lt-ltb (address / 8) count h)
 

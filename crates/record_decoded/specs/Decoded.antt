@@ -1,5 +1,5 @@
 -- What the decoded arrays and the record's initial bytes hold, in the model's terms.
-use Prim.Native.Nat.{ℕ, _+_, _*_, _/_, _%_, _≤_}
+use Prim.Native.Nat.{ℕ, _+_, _*_, _/_, _≤_}
 use mathlib.Core.Path.{_≡_}
 use mathlib.Core.Bool.{cond}
 use mathlib.Core.List.{List, map}
@@ -8,7 +8,7 @@ use lib.Dec.{ltb}
 use Rattle.base.specs.Lists.{below}
 use Rattle.model.specs.Execution as model
 use Rattle.model.specs.Execution.{kindOf, attributeOf, operationCount}
-use Rattle.model.specs.Questions.{lineLength}
+use Rattle.model.specs.Questions.{lineLength, initialPlace}
 use Rattle.record_decoded.specs.declared.types.Lines.{Lines}
 use Rattle.record_decoded.specs.declared.types.Instructions.{Instructions}
 use Rattle.record_decoded.specs.declared.types.Pairs.{Pairs}
@@ -18,16 +18,16 @@ use Rattle.record_decoded.specs.declared.types.Execution.{Execution}
 unfoldable pub eight : List ℕ → ℕ → List ℕ
 eight l k = take 8 (drop (8 * k) l)
 
--- line k, whose initial bytes stay in the record: `part` is its section of lines, from their count on
+-- line k, whose initial bytes stay in the record: `part` is the record from the count of lines on
 unfoldable pub decodedLine : List ℕ → Lines → ℕ → model.Line
 decodedLine part x k = record { attribute = attributeOf (getD (x .attributes) k 0); initial = take 8 (drop (2 + lineLength * k) part) }
 
 unfoldable pub linesOf : List ℕ → Lines → List model.Line
 linesOf part x = map (decodedLine part x) (below (x .count))
 
--- the initial byte of an address in a record of so many lines
+-- the initial byte of an address in a record of so many lines; 0 past the lines and past the record
 unfoldable pub initialOf : List ℕ → ℕ → ℕ → ℕ
-initialOf bytes count address = cond (ltb (address / 8) count) (getD bytes (3 + lineLength * (address / 8) + address % 8) 0) 0
+initialOf bytes count address = cond (ltb (address / 8) count) (getD bytes (initialPlace address) 0) 0
 
 -- instruction i
 unfoldable pub instructionAt : Instructions → ℕ → model.Instruction
@@ -61,7 +61,7 @@ pairsOf x = map (pairAt x) (below (x .count))
 abbrev pub pairOf : List ℕ → ℕ → ℕ × ℕ
 pairOf part at = (getD part at 0, getD part (at + 1) 0)
 
--- the execution that the decoded arrays hold, with the initial bytes of the record
+-- the execution that the decoded arrays hold, with the initial bytes of the record, in which P stands before the lines
 unfoldable pub executionOf : List ℕ → Execution → model.Execution
 executionOf bytes x = record {
   processors = x .processors;

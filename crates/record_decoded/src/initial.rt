@@ -4,7 +4,8 @@ ghost use Prim.Native.Nat.{_≤_, _<_};
 ghost use Rattle.record_decoded.specs.Decoded.{initialOf};
 use crate::types::LINE_LENGTH;
 
-// The byte that an address holds at the start, in a record of so many lines.
+// The byte that an address holds at the start, in a record of so many lines; 0 past the lines and past the record. P, the count of lines and the line's
+// attribute stand before it.
 pub fn initial_byte(bytes: &[u8], count: usize, address: usize) -> u8
     requires { ⌜ count ≤ 8 ⌝ }
     ensures { λ r. ⌜ r ≡ initialOf (now (bytes .entry)) count address ⌝ }

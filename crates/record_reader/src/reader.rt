@@ -30,7 +30,7 @@ pub struct Reading {
     pub execution: Execution,
 }
 
-// A refusal. (Here and below, what the record holds before the section that is lent is open: each contract holds for every record.)
+// A refusal. (Here and below only a section of the record is lent. The initial bytes stand before it, and each contract holds whatever they are.)
 fn refused(q: u8) -> Reading
     ensures { λ r. ⌜ ((bytes : List ℕ) → refuses q ≡ readingOf bytes r) ⌝ }
 {

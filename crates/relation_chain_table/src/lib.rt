@@ -24,7 +24,8 @@ pub enum TableAnswer {
     Refused(u8),
 }
 
-// Question 22, then the table: the links, closed to chains, then written out. No link hangs on the initial bytes, so the contract holds for all of them.
+// Question 22, then the table: the links, closed to chains, then written out. No link depends on the initial bytes: the contract holds
+// whatever they are.
 fn write_chains(x: Execution, table: &mut [u8]) -> TableAnswer
     requires { ⌜ ((bytes : List ℕ) → Accepted (executionOf bytes x)) ⌝ }
     ensures { λ r. ⌜ ((bytes : List ℕ) → replyOf r (now (table .exit)) ≡ tableReply (now (table .entry)) (tableMarks (executionOf bytes x) (now (table .entry)))) ⌝ }

@@ -200,4 +200,4 @@ pub record RowsMean (bytes : List ℕ) (x : Execution) (t : Operations) (marks :
   pub rowed : (o : ℕ) → o < operations (executionOf bytes x) → RowOf x t marks o bytes (λ f. field rows f o)
   pub whole : length rows ≡ tableLength
   pub data-bytes : Bytes (x .instructions .bytes)
-  pub initial-bytes : Bytes bytes
+  pub record-bytes : Bytes bytes

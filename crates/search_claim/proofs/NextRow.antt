@@ -63,7 +63,7 @@ bytes-are (b ∷ l) h zero = ltb-true b 256 (and-parts (ltb b 256) (all (λ b. l
 bytes-are (b ∷ l) h (suc j) = bytes-are l (and-parts (ltb b 256) (all (λ b. ltb b 256) l) h .1) j
 
 -- a table has the places of an order
-places-are : (n : ℕ) (xs places : List ℕ) → n ≤ 128 → distinct n [] xs ≡ true → allBelow 128 (λ o. eqb (placed places o) (placeFrom 0 xs o)) ≡ true
+pub places-are : (n : ℕ) (xs places : List ℕ) → n ≤ 128 → distinct n [] xs ≡ true → allBelow 128 (λ o. eqb (placed places o) (placeFrom 0 xs o)) ≡ true
     → Placed n xs places
 places-are n xs places few different t = record { few = few; different = different; stands = λ o. go o (decLt o 128) }
   where
@@ -142,7 +142,7 @@ rows-are = record {
   rowed = row-of;
   whole = refl;
   data-bytes = bytes-are (k2Arrays .instructions .bytes) refl;
-  initial-bytes = bytes-are k2 refl;
+  record-bytes = bytes-are k2 refl;
 }
 
 -- both prefixes are consistent

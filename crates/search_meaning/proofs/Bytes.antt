@@ -16,7 +16,7 @@ use Rattle.search_sets.proofs.Bit.{differ-cancel, has-xor}
 use Rattle.search_sets.proofs.Laws.{same-bits}
 use Rattle.model.specs.Execution as model
 use Rattle.model.specs.Execution.{isFence, Instruction, initialByte}
-use Rattle.model.specs.Questions.{question7, question8}
+use Rattle.model.specs.Questions.{initialPlace, question7, question8}
 use Rattle.model.specs.Rules.{accesses, byteWritten}
 use Rattle.model.specs.Accepted.{Accepted, Sound}
 use Rattle.record_decoded.specs.declared.types.Execution.{Execution}
@@ -152,6 +152,6 @@ module _ (bytes : List ℕ) (x : Execution) (accepted : Accepted (executionOf by
   unfolding initialOf
   initial-small small a = subst (λ (v : ℕ). v < 256) (sym (initial-is bytes x a)) (by (ltb (a / 8) (x .lines .count)))
     where
-      by : (there : Bool) → cond there (getD bytes (3 + 9 * (a / 8) + a % 8) 0) 0 < 256
-      by true = small (3 + 9 * (a / 8) + a % 8)
+      by : (there : Bool) → cond there (getD bytes (initialPlace a) 0) 0 < 256
+      by true = small (initialPlace a)
       by false = omega arith

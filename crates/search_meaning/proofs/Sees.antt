@@ -286,7 +286,7 @@ module _ {t : Tables} (h : TablesMean t) (accepted : Accepted (executionOf (t .b
       writers = sightOf e load b .writers
 
       initial : initialByte e b < 256
-      initial = initial-small (t .bytes) (t .execution) accepted (h .initial-bytes) b
+      initial = initial-small (t .bytes) (t .execution) accepted (h .record-bytes) b
 
       wrote : (u : Writer) → List·Memᴰ u writers → u .wrote < 256
       wrote u mu =

@@ -87,5 +87,5 @@ filled {bytes} {x} {t} {marks} {n} {rows} {o} inv h compiled count b c = record 
   rowed = λ k l. inv .rowed k (omega arith);
   whole = inv .long;
   data-bytes = b;
-  initial-bytes = c;
+  record-bytes = c;
 }

@@ -9,7 +9,7 @@ ghost use Rattle.model.specs.Accepted.{Accepted};
 ghost use Rattle.record_decoded.specs.Decoded.{executionOf};
 ghost use Rattle.relation_links.specs.Compiled.{Compiled};
 ghost use Rattle.search_admit.specs.Rows.{writes, visibleAt, ownAt, RowOf};
-ghost use Rattle.search_rows.specs.Lent.{Lent, Bits, Values};
+ghost use Rattle.search_rows.specs.Lent.{Lent, CoveredBits, RelativeValues};
 use record_decoded::kind::ROLE_LV;
 use record_decoded::kind::ROLE_R;
 use record_decoded::kind::ROLE_RV;
@@ -88,7 +88,8 @@ fn word_of(role: u8, processor: usize, line: usize) -> usize
     visible_at(wide(role - ROLE_RV), line)
 }
 
-// The row of operation o, by the arrays of the operations and the instructions and the instructions' words, that are lent for all rows. Only the words hang on the initial bytes.
+// The row of operation o, by the arrays of the operations and the instructions and the instructions' words, that are lent for all rows. Of these only the values
+// depend on the initial bytes.
 pub fn row_of<'a>(
     x: Execution,
     t: Operations,
@@ -103,8 +104,8 @@ pub fn row_of<'a>(
     values: &'a [u64; MOST_INSTRUCTIONS],
     o: OperationNo,
 ) -> [u64; ROW]
-    requires { ⌜ ((bytes : List ℕ) → Compiled bytes x t (now marks)) × ((bytes : List ℕ) → Accepted (executionOf bytes x)) × (o .0 < t .count) × Lent x t (now owners) (now roles) (now kinds) (now firsts) (now processors) (now addresses) × Bits x (now bits) ⌝ }
-    ensures { λ r. ⌜ ((bytes : List ℕ) → Values bytes x (now (values .entry)) → RowOf x t (now (marks .entry)) (o .0) bytes (λ (f : ℕ). getD r f 0)) ⌝ }
+    requires { ⌜ ((bytes : List ℕ) → Compiled bytes x t (now marks)) × ((bytes : List ℕ) → Accepted (executionOf bytes x)) × (o .0 < t .count) × Lent x t (now owners) (now roles) (now kinds) (now firsts) (now processors) (now addresses) × CoveredBits x (now bits) ⌝ }
+    ensures { λ r. ⌜ ((bytes : List ℕ) → RelativeValues bytes x (now (values .entry)) → RowOf x t (now (marks .entry)) (o .0) bytes (λ (f : ℕ). getD r f 0)) ⌝ }
 {
     let every = x.processors;
     let n = x.instructions.count;

@@ -10,7 +10,7 @@ ghost use Rattle.search_admit.specs.Rows.{rowLength, tableLength, Bytes, RowsMe
 ghost use Rattle.search_rows.specs.Puts.{Put};
 use crate::line::known_bytes;
 use crate::row::row_of;
-use crate::words::words_of;
+use crate::words::access_words;
 use record_decoded::types::Execution;
 use record_decoded::types::MOST_INSTRUCTIONS;
 use record_decoded::types::OperationNo;
@@ -45,7 +45,7 @@ pub fn rows_of(
     t: Operations,
     marks: &[[u16; MOST_INSTRUCTIONS]; MOST_INSTRUCTIONS],
 ) -> [u64; TABLE]
-    requires { ⌜ ((others : List ℕ) → Compiled others x t (now marks)) × Accepted (executionOf (now bytes) x) ⌝ }
+    requires { ⌜ ((every : List ℕ) → Compiled every x t (now marks)) × Accepted (executionOf (now bytes) x) ⌝ }
     ensures { λ r. ⌜ RowsMean (now (bytes .entry)) x t (now (marks .entry)) r ⌝ }
 {
     let n = t.count;
@@ -56,7 +56,7 @@ pub fn rows_of(
     let firsts = is.firsts;
     let processors = is.processors;
     let addresses = is.addresses;
-    let words = words_of(bytes, x);
+    let words = access_words(bytes, x);
     let bits = words.bits;
     let values = words.values;
     let mut rows = [0u64; TABLE];
@@ -78,6 +78,7 @@ pub fn rows_of(
         put_row(&mut rows, OperationNo(o), &row);
     }
     known_data(x);
+    // One by one, and none is kept.
     known_bytes(bytes);
     rows
 }

@@ -1,6 +1,6 @@
-// Two words for each instruction: the bits of its bytes in its line, and what it saw or wrote there.
+// Two words for each instruction: the bits of its bytes in its line, and what it saw or wrote there, relative to the initial bytes.
 ghost use Prim.Native.Nat.{_≤_};
-ghost use Rattle.search_rows.specs.Lent.{InLines, Bits, Values};
+ghost use Rattle.search_rows.specs.Lent.{InLines, CoveredBits, RelativeValues};
 use crate::line::bits_from;
 use crate::line::relative_from;
 use record_decoded::types::Execution;
@@ -8,15 +8,15 @@ use record_decoded::types::InstructionNo;
 use record_decoded::types::MOST_INSTRUCTIONS;
 use record_decoded::types::wide;
 
-pub struct Words {
+pub struct AccessWords {
     pub bits: [u64; MOST_INSTRUCTIONS],
     pub values: [u64; MOST_INSTRUCTIONS],
 }
 
-// The words of each instruction. What it saw or wrote is relative to the initial bytes of the record.
-pub fn words_of(bytes: &[u8], x: Execution) -> Words
+// The words of each instruction.
+pub fn access_words(bytes: &[u8], x: Execution) -> AccessWords
     requires { ⌜ (x .instructions .count ≤ 40) × (x .lines .count ≤ 8) × InLines (x .instructions) ⌝ }
-    ensures { λ r. ⌜ Bits x (r .bits) × Values (now (bytes .entry)) x (r .values) ⌝ }
+    ensures { λ r. ⌜ CoveredBits x (r .bits) × RelativeValues (now (bytes .entry)) x (r .values) ⌝ }
 {
     let lines = x.lines;
     let count = lines.count;
@@ -33,5 +33,5 @@ pub fn words_of(bytes: &[u8], x: Execution) -> Words
         bits[w] = bits_from(address % 8, size);
         values[w] = relative_from(bytes, count, &data, InstructionNo(w), address, size);
     }
-    Words { bits, values }
+    AccessWords { bits, values }
 }

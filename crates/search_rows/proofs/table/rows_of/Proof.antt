@@ -15,8 +15,8 @@ Inv-loop bytes x t marks n owners roles kinds firsts processors addresses bits v
 abbrev μ-loop : tie.MeasureT-loop
 μ-loop bytes x t marks n owners roles kinds firsts processors addresses bits values rows₀ o₀ rows o = n - o
 
-words-of-requires : tie.Need-words-of-requires Inv-loop μ-loop
-words-of-requires c κs =
+access-words-requires : tie.Need-access-words-requires Inv-loop μ-loop
+access-words-requires c κs =
     let s = c .before .before .before .before .before .before .before .before in
     (few-instructions (s .args .bytes .now) (s .args .x) (s .pre .1), few-lines (s .args .bytes .now) (s .args .x) (s .pre .1), in-lines (s .args .bytes .now) (s .args .x) (s .pre .1))
 
@@ -37,7 +37,7 @@ row-of-requires c κs =
         processors-are = refl;
         addresses-are = refl;
       },
-      c .before .before .before .before .before .before .before .before .before .before .before .before .words-of .ensures .0,
+      c .before .before .before .before .before .before .before .before .before .before .before .before .access-words .ensures .0,
     )
 
 slice-aggregate-put-row : tie.Need-slice-aggregate-put-row Inv-loop μ-loop
@@ -59,7 +59,7 @@ loop-less : tie.Need-loop-less Inv-loop μ-loop
 loop-less c = omega (arith, c .before .before .before .before .before .before .before .before .before .before .before .before .before .loop-test .taken)
 
 loop-again : tie.Need-loop-again Inv-loop μ-loop
-loop-again c = let s = c .before .before .before .before .before .before .before .before .before .before .before .before .before .before .before .before .before .before .before .before .before .before .before .before .before .before in filled-more (c .before .before .before .before .before .before .before .before .before .before .before .before .before .before .loop .inv) (c .before .before .before .before .before .before .before .before .before .before .before .before .before .loop-test .taken) (omega (arith, s .pre .0 (s .args .bytes .now) .tabled .counts, s .pre .1 .operations-few)) (c .before .before .before .before .row-of .result) (c .before .before .before .before .row-of .ensures _ (c .before .before .before .before .before .before .before .before .before .before .before .before .before .before .before .before .before .words-of .ensures .1)) (c .before .put-row .ensures)
+loop-again c = let s = c .before .before .before .before .before .before .before .before .before .before .before .before .before .before .before .before .before .before .before .before .before .before .before .before .before .before in filled-more (c .before .before .before .before .before .before .before .before .before .before .before .before .before .before .loop .inv) (c .before .before .before .before .before .before .before .before .before .before .before .before .before .loop-test .taken) (omega (arith, s .pre .0 (s .args .bytes .now) .tabled .counts, s .pre .1 .operations-few)) (c .before .before .before .before .row-of .result) (c .before .before .before .before .row-of .ensures _ (c .before .before .before .before .before .before .before .before .before .before .before .before .before .before .before .before .before .access-words .ensures .1)) (c .before .put-row .ensures)
 
 known-data-requires : tie.Need-known-data-requires Inv-loop μ-loop
 known-data-requires c κs = search needs
@@ -76,7 +76,7 @@ rows-of-spec =
     (tie.spec
     Inv-loop
     μ-loop
-    words-of-requires
+    access-words-requires
     loop-holds
     row-of-requires
     slice-aggregate-put-row

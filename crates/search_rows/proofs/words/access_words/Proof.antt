@@ -11,8 +11,8 @@ use Rattle.record_decoded.specs.Decoded.{initialOf}
 use Rattle.search_admit.specs.Rows.{relative}
 use Rattle.search_rows.proofs.LineLaws.{covers-by, data-by}
 use borrow.Author.Needs.{needs}
-use Rattle.search_rows.proofs.words.words_of.Statement.{statement}
-use Rattle.search_rows.proofs.words.words_of.Tie as tie
+use Rattle.search_rows.proofs.words.access_words.Statement.{statement}
+use Rattle.search_rows.proofs.words.access_words.Tie as tie
 
 abbrev Inv-loop : tie.InvT-loop
 Inv-loop bytes count n addresses sizes saw bits₀ values₀ w₀ bits values w =
@@ -95,8 +95,8 @@ returns c =
       λ w i h l. inv .2 .holds w (omega (arith, h, c .loop-test .left)) i l ∙ data-by (g .x) w refl refl (g .bytes .now) refl i,
     )
 
-pub words-of-spec : {M : Type 1} → statement M
-words-of-spec =
+pub access-words-spec : {M : Type 1} → statement M
+access-words-spec =
     tie.close
     (tie.spec
     Inv-loop
