@@ -278,10 +278,10 @@ fn sight_broken(
     ensures { λ r. ⌜ r ≡ sightBroken (now (bytes .entry)) x (now (places .entry)) (load .0) k ⌝ }
 {
     let is = x.instructions;
-    let lines = x.lines;
     if place_of(places, read_no(is, load)) >= ABSENT {
         return false;
     }
+    let lines = x.lines;
     let from = address_of(is, load);
     let address = from + k;
     let initial = initial_byte(bytes, lines.count, address);

@@ -14,7 +14,7 @@ place-of-requires c κs = search needs
 
 returns : tie.Need-returns
 returns c =
-    let a = c .before .before .before .before .before .before .args in
+    let a = c .before .before .before .before .before .args in
     sight-absent (a .bytes .now) (a .x) (a .places .now) (a .load .0) (a .k) (c .before .place-of .result)
     (c .before .place-of .ensures ∙ ap (placed (a .places .now)) (c .before .before .read-no .ensures)) (c .if1 .taken)
 
@@ -36,9 +36,9 @@ data-byte-requires c κs = search needs
 returns-2 : tie.Need-returns-2
 returns-2 c =
     let a = c .before .before .before .before .before .before .before .before .before .before .args in
-    sight-is (a .bytes .now) (a .x) (a .places .now) (a .load .0) (a .k) (c .before .before .before .before .before .place-of .result)
-    (c .before .before .before .before .before .place-of .ensures ∙ ap (placed (a .places .now)) (c .before .before .before .before .before .before .read-no .ensures))
-    (c .before .before .before .before .if1 .left) (c .before .before .before .address-of .result) (c .before .before .initial-byte .result) (c .before .byte-read .result)
+    sight-is (a .bytes .now) (a .x) (a .places .now) (a .load .0) (a .k) (c .before .before .before .before .before .before .place-of .result)
+    (c .before .before .before .before .before .before .place-of .ensures ∙ ap (placed (a .places .now)) (c .before .before .before .before .before .before .before .read-no .ensures))
+    (c .before .before .before .before .before .if1 .left) (c .before .before .before .address-of .result) (c .before .before .initial-byte .result) (c .before .byte-read .result)
     (c .data-byte .result) (c .before .before .before .address-of .ensures .0) (c .before .before .initial-byte .ensures) (c .before .byte-read .ensures) (c .data-byte .ensures)
 
 pub sight-broken-spec : {M : Type 1} → statement M
