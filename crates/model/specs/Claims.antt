@@ -141,7 +141,7 @@ OldRecords =
     → ((k : ℕ) → k < length (e .lines) → attributeByte bytes k ≤ 2)
     → OldAnswers bytes e
 
--- Two accepted records of one length that have the same byte at every place but those of other addresses' initial bytes than b's
+-- Two accepted records of one length, with the same byte at every place but those of the initial bytes of addresses other than b
 pub record DifferElsewhere (b : ℕ) (bytes others : List ℕ) (e d : Execution) : Type 0 where
   pub accepted : readAll bytes ≡ says e
   pub others-accepted : readAll others ≡ says d

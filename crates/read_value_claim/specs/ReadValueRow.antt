@@ -50,7 +50,8 @@ wideRows v =
 abbrev pub theLoad : Instruction
 theLoad = instructionAt (wideArrays .instructions) 1
 
--- The two records differ elsewhere; the load is one of theirs and reads address 0; behind the prefix 0, the store's LV, the words and the places are these.
+-- The two records differ elsewhere, and have these rows; the load is one of theirs and reads address 0; the prefix is 0, the store's LV, with the set of what stands
+-- and the places.
 pub record ReadValueRow : Type 0 where
   pub differ : DifferElsewhere 0 (wide 0) (wide 9) (executionOf (wide 0) wideArrays) (executionOf (wide 9) wideArrays)
   pub loads-it : List·Memᴰ theLoad (loads (executionOf (wide 0) wideArrays))

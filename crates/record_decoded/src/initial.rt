@@ -1,6 +1,6 @@
 // The initial bytes of memory, which stay in the lent record: one is read at a time.
 ghost use mathlib.Core.Path.{_≡_};
-ghost use Prim.Native.Nat.{_≤_, _<_};
+ghost use Prim.Native.Nat.{_≤_};
 ghost use Rattle.record_decoded.specs.Decoded.{initialOf};
 use crate::types::LINE_LENGTH;
 
