@@ -20,7 +20,7 @@ use Rattle.relation_links.specs.Links.{linkOf, linkBy}
 use Rattle.relation_links.proofs.LinkLaws.{operation-role, link-means}
 use Rattle.relation_links.proofs.CompiledLaws.{operation-there, owner-there}
 use Rattle.judge_rules.specs.Tests.{standsAgainst, linksBroken}
-use Rattle.relation_links.specs.Compiled.{Compiled}
+use Rattle.relation_links.specs.Compiled.{CompiledIn}
 
 -- the links of a relation that a prefix breaks
 links-broken : (e : model.Execution) (link : model.Operation → model.Operation → Bool) (xs : List ℕ)
@@ -36,7 +36,7 @@ links-broken e link xs =
     against : Link → Bool
     against l = before xs (l .1) (l .0)
 
-module _ {bytes : List ℕ} {x : Execution} {t : Operations} {marks : List (List ℕ)} (h : Compiled bytes x t marks) where
+module _ {bytes : List ℕ} {x : Execution} {t : Operations} {marks : List (List ℕ)} (h : CompiledIn bytes x t marks) where
   abbrev e : model.Execution
   e = executionOf bytes x
 

@@ -22,7 +22,7 @@ use Rattle.relation_places.proofs.PlaceLaws.{before-placed}
 use Rattle.relation_marks.specs.Marks.{hasMark, markAt, marksOf, marksBetween}
 use Rattle.relation_links.specs.declared.operations.Operations.{Operations}
 use Rattle.judge_rules.specs.Tests.{remoteBefore, ownTurned, remoteTurned, releaseSplitBy, releaseSplit, bypassed, pairBroken, pairsBroken}
-use Rattle.relation_links.specs.Compiled.{Compiled}
+use Rattle.relation_links.specs.Compiled.{CompiledIn}
 
 -- the order of the tests of rule 12
 reordered : (M : ℕ → Bool) (A B : ℕ → ℕ → Bool) (remote numbers : List ℕ)
@@ -69,7 +69,7 @@ module _ (bytes : List ℕ) (x : Execution) where
       ∙ any-below-same _ _ number (λ i l. ap (λ (t : Bool). q (instruction i) && t) (sort-by-number r (p (instruction i)))
       ∙ sym (any-below-and (q (instruction i)) (λ j. r (instruction j) && p (instruction i) (instruction j)) number))
 
-  module _ {t : Operations} {marks : List (List ℕ)} (h : Compiled bytes x t marks) {n : ℕ} {xs places : List ℕ} (p : Placed n xs places) where
+  module _ {t : Operations} {marks : List (List ℕ)} (h : CompiledIn bytes x t marks) {n : ℕ} {xs places : List ℕ} (p : Placed n xs places) where
     -- bit k of two instructions
     bit-is : (k : ℕ) (i j : ℕ) → i < number → j < number → bit (markAt marks i j) k ≡ getD (marksOf e (instruction i) (instruction j)) k false
     unfolding marksBetween

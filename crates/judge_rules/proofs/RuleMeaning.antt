@@ -12,12 +12,12 @@ use Rattle.record_decoded.specs.Decoded.{executionOf}
 use Rattle.relation_places.specs.Places.{Placed}
 use Rattle.relation_links.specs.declared.operations.Operations.{Operations}
 use Rattle.judge_rules.specs.Tests.{pairsBroken, linksBroken}
-use Rattle.relation_links.specs.Compiled.{Compiled}
+use Rattle.relation_links.specs.Compiled.{CompiledIn}
 use Rattle.judge_rules.proofs.LinkMeaning.{links-mean}
 use Rattle.judge_rules.proofs.PairMeaning.{rule9-means, rule10-means, rule12-means, rule14-means}
 use Rattle.judge_rules.proofs.LowestLaws.{link-rule}
 
-module _ {bytes : List ℕ} {x : Execution} {t : Operations} {marks : List (List ℕ)} (h : Compiled bytes x t marks) {n : ℕ} {xs places : List ℕ} (p : Placed n xs places) (rule : ℕ) where
+module _ {bytes : List ℕ} {x : Execution} {t : Operations} {marks : List (List ℕ)} (h : CompiledIn bytes x t marks) {n : ℕ} {xs places : List ℕ} (p : Placed n xs places) (rule : ℕ) where
   abbrev e : model.Execution
   e = executionOf bytes x
 

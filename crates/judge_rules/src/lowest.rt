@@ -34,7 +34,7 @@ fn rule_broken(
     places: &[u8; Position::LIMIT],
 ) -> bool
     requires { ⌜ (1 ≤ rule) × (rule ≤ 14) × (x .instructions .count ≤ 40) × (x .lines .count ≤ 8) × (x .processors ≤ 8) × (t .count ≤ 128) ⌝ }
-    requires { ⌜ Compiled (now bytes) x t (now marks) ⌝ }
+    requires { ⌜ Compiled x t (now marks) ⌝ }
     ensures { λ r. ⌜ ((n : ℕ) (xs : List ℕ) → Placed n xs (now (places .entry)) → r ≡ any (broken xs) (getD (rules (executionOf (now (bytes .entry)) x)) (rule - 1) [])) ⌝ }
 {
     let is = x.instructions;
@@ -63,7 +63,7 @@ pub fn lowest_broken(
     places: &[u8; Position::LIMIT],
 ) -> Lowest
     requires { ⌜ (x .instructions .count ≤ 40) × (x .lines .count ≤ 8) × (x .processors ≤ 8) × (t .count ≤ 128) ⌝ }
-    requires { ⌜ Compiled (now bytes) x t (now marks) ⌝ }
+    requires { ⌜ Compiled x t (now marks) ⌝ }
     ensures { λ r. ⌜ ((n : ℕ) (xs : List ℕ) → Placed n xs (now (places .entry)) → lowestMeant r ≡ lowestBroken (executionOf (now (bytes .entry)) x) xs) ⌝ }
 {
     for k in 0u8..RULES {

@@ -20,7 +20,7 @@ use Rattle.model.specs.Calls.{says, answerOf, readAll}
 use Rattle.model.specs.Notation.{recordOf}
 use Rattle.record_decoded.specs.Decoded.{eight, decodedLine, linesOf, initialOf, instructionAt, instructionsOf, pairsOf, executionOf}
 use Rattle.relation_links.specs.Operations.{operationAt, tableOf}
-use Rattle.relation_links.specs.Compiled.{Compiled}
+use Rattle.relation_links.specs.Compiled.{CompiledIn}
 use Rattle.relation_marks.specs.Marks.{earlierOf, givenPair, marksOf, marksBetween}
 use Rattle.relation_places.specs.Places.{placeFrom, placed}
 use Rattle.search_sets.specs.Set.{holds}
@@ -35,7 +35,7 @@ unfolding all for count below member attributes roles operationCount next item b
 accepts v = refl
 
 -- the table of operations, and the marks
-compiles : (v : ℕ) → Compiled (wide v) wideArrays k2Operations k2Marks
+compiles : (v : ℕ) → CompiledIn (wide v) wideArrays k2Operations k2Marks
 unfolding any for count below member allBelow packed packedOn roles remotesAt placeAmong operationCount operations operationsOf allOperations lineAt attributeAt addresses accesses overlap conflict executionOf linesOf decodedLine instructionsOf instructionAt pairsOf operationAt tableOf ruleMarks marks earlierOf givenPair marksOf marksBetween wideArrays k2Operations k2Marks
 compiles v = record { tabled = record { holds = refl; counts = refl }; marked = equal-two _ _ 2 2 refl }
 

@@ -17,7 +17,7 @@ use Rattle.record_decoded.specs.declared.types.Execution.{Execution}
 use Rattle.record_decoded.specs.Decoded.{executionOf}
 use Rattle.relation_links.specs.declared.operations.Operations.{Operations}
 use Rattle.relation_links.specs.Operations.{operationAt}
-use Rattle.relation_links.specs.Compiled.{Compiled}
+use Rattle.relation_links.specs.Compiled.{CompiledIn}
 use Rattle.relation_links.proofs.CompiledLaws.{operation-there, operation-numbered}
 use Rattle.relation_links.specs.Linked.{linkedAt}
 use Rattle.relation_links.proofs.LinkedLaws.{linked-means}
@@ -63,7 +63,7 @@ module _ (e : model.Execution) where
   pub chain-marks-are-paths : Accepted e → MarksArePaths (operations e) (linksOf e (linked e))
   chain-marks-are-paths c = marks-are-paths (operations e) (linksOf e (linked e)) (links-within (linked e) (c .consecutive))
 
-module _ {bytes : List ℕ} {x : Execution} {t : Operations} {marks : List (List ℕ)} (h : Compiled bytes x t marks) where
+module _ {bytes : List ℕ} {x : Execution} {t : Operations} {marks : List (List ℕ)} (h : CompiledIn bytes x t marks) where
   module _ (consecutive : Consecutive (executionOf bytes x .processors) 0 0 (executionOf bytes x .instructions)) (a b : ℕ) (la : a < t .count) (lb : b < t .count) where
     abbrev e : model.Execution
     e = executionOf bytes x

@@ -22,7 +22,7 @@ use Rattle.record_decoded.specs.Decoded.{instructionsOf, executionOf}
 use Rattle.record_decoded.proofs.Counts.{count-is}
 use Rattle.relation_links.specs.declared.operations.Operations.{Operations}
 use Rattle.relation_links.specs.Operations.{Tabled}
-use Rattle.relation_links.specs.Compiled.{Compiled}
+use Rattle.relation_links.specs.Compiled.{CompiledIn}
 use Rattle.relation_links.proofs.CompiledLaws.{few-operations, few-instructions, owner-there}
 use Rattle.relation_chain_table.specs.declared.TableAnswer.the-variants.{Done, Refused}
 use Rattle.relation_chain_table.specs.Replies.{replyOf}
@@ -89,7 +89,7 @@ module _ (bytes : List ℕ) (x : Execution) (a : Accepted (executionOf bytes x))
     unfolding tableMarks tableReply
     refuses-22 table h = ap (tableReply table) (asked-no 22 _ (room-is table ∙ lt-leb (t .count * t .count) (length table) h))
 
-    module _ {marks : List (List ℕ)} (c : Compiled bytes x t marks) where
+    module _ {marks : List (List ℕ)} (c : CompiledIn bytes x t marks) where
       pub owners-few : (o : ℕ) → o < t .count → getD (t .owners) o 0 < 40
       owners-few o l = omega (arith, owner-there c o l, few-instructions bytes x a)
 

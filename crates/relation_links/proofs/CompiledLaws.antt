@@ -16,10 +16,10 @@ use Rattle.record_decoded.proofs.Arrays.{lines-length, instructions-length}
 use Rattle.relation_links.specs.declared.operations.Operations.{Operations}
 use Rattle.relation_marks.specs.Marks.{marksBetween, markAt}
 use Rattle.relation_links.specs.Operations.{operationAt, tableOf, Tabled}
-use Rattle.relation_links.specs.Compiled.{Compiled}
+use Rattle.relation_links.specs.Compiled.{CompiledIn}
 use Rattle.relation_links.proofs.LinkLaws.{operation-of, operation-role, operation-number}
 
-module _ {bytes : List ℕ} {x : Execution} {t : Operations} {marks : List (List ℕ)} (h : Compiled bytes x t marks) where
+module _ {bytes : List ℕ} {x : Execution} {t : Operations} {marks : List (List ℕ)} (h : CompiledIn bytes x t marks) where
   -- operation o of the table is one of the execution
   pub operation-there : (o : ℕ) → o < t .count → List·Memᴰ (operationAt (x .instructions) t o) (allOperations (executionOf bytes x))
   unfolding tableOf
@@ -91,7 +91,7 @@ pub compiled : (bytes : List ℕ) (x : Execution) {t : Operations} {marks : List
     → Tabled (x .instructions) t (for (instructionsOf (x .instructions)) (operationsOf (x .processors))) (operationCount (x .processors) (instructionsOf (x .instructions)))
     → ((i j : ℕ) → i < x .instructions .count → j < x .instructions .count
     → markAt marks i j ≡ marksBetween (executionOf bytes x) (instructionAt (x .instructions) i) (instructionAt (x .instructions) j))
-    → Compiled bytes x t marks
+    → CompiledIn bytes x t marks
 unfolding executionOf operations allOperations
 compiled bytes x h k = record { tabled = h; marked = k }
 

@@ -17,7 +17,7 @@ use Rattle.record_decoded.specs.Decoded.{instructionAt, executionOf}
 use Rattle.relation_marks.specs.Marks.{hasMark}
 use Rattle.relation_links.specs.declared.operations.Operations.{Operations}
 use Rattle.relation_links.specs.Operations.{operationAt}
-use Rattle.relation_links.specs.Compiled.{Compiled}
+use Rattle.relation_links.specs.Compiled.{CompiledIn}
 use Rattle.relation_links.specs.Links.{ruleMark, rolesLink, linkBy}
 use Rattle.relation_links.proofs.LinkLaws.{operation-role, operation-processor, link-means, linked-by}
 use Rattle.relation_links.proofs.CompiledLaws.{operation-there, owner-there}
@@ -107,7 +107,7 @@ from-remote m p (suc (suc (suc q))) b l h1 h3 h4 =
 
 -- the tables of an execution
 -- the tables' test of two operations is whether some rule links them
-pub linked-means : {bytes : List ℕ} {x : Execution} {t : Operations} {marks : List (List ℕ)} → Compiled bytes x t marks → Consecutive (executionOf bytes x .processors) 0 0 (executionOf bytes x .instructions)
+pub linked-means : {bytes : List ℕ} {x : Execution} {t : Operations} {marks : List (List ℕ)} → CompiledIn bytes x t marks → Consecutive (executionOf bytes x .processors) 0 0 (executionOf bytes x .instructions)
     → (a o : ℕ) → a < t .count → o < t .count
     → linkedAt (x .instructions) t marks a o ≡ linked (executionOf bytes x) (operationAt (x .instructions) t a) (operationAt (x .instructions) t o)
 unfolding linkedAt linkedBy operationAt instructionAt

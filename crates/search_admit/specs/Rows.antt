@@ -16,7 +16,7 @@ use Rattle.record_decoded.specs.Decoded.{initialOf, instructionAt, executionOf}
 use Rattle.relation_marks.specs.Marks.{hasMark, conflictMark, bypassMark, markAt}
 use Rattle.relation_links.specs.declared.operations.Operations.{Operations}
 use Rattle.relation_links.specs.Operations.{operationAt}
-use Rattle.relation_links.specs.Compiled.{Compiled}
+use Rattle.relation_links.specs.Compiled.{CompiledIn}
 use Rattle.search_sets.specs.Set.{holds}
 
 -- the words of a row, and of all 128 rows
@@ -196,7 +196,7 @@ Bytes l = (j : ℕ) → getD l j 0 < 256
 
 -- the rows hold what they should of the execution
 pub record RowsMean (bytes : List ℕ) (x : Execution) (t : Operations) (marks : List (List ℕ)) (rows : List ℕ) : Type 0 where
-  pub compiled : Compiled bytes x t marks
+  pub compiled : CompiledIn bytes x t marks
   pub rowed : (o : ℕ) → o < operations (executionOf bytes x) → RowOf x t marks o bytes (λ f. field rows f o)
   pub whole : length rows ≡ tableLength
   pub data-bytes : Bytes (x .instructions .bytes)

@@ -73,7 +73,7 @@ fn search_on(
     saved: usize,
     allowance: u32,
 ) -> SearchReply
-    requires { ⌜ Accepted (executionOf (now bytes) x) × ((every : List ℕ) → Compiled every x t (now marks)) ⌝ }
+    requires { ⌜ Accepted (executionOf (now bytes) x) × Compiled x t (now marks) ⌝ }
     requires { ⌜ (saved ≤ t .count) × (t .count ≤ length (now buffer)) × (distinct (t .count) [] (take saved (now buffer)) ≡ true) ⌝ }
     ensures { λ r. ⌜ replyOf r (now (buffer .exit)) ≡ searchReply saved (now (buffer .entry)) (searchPosition (executionOf (now (bytes .entry)) x) (take saved (now (buffer .entry))) allowance) ⌝ }
 {

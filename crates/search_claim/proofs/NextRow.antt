@@ -24,7 +24,7 @@ use Rattle.model.specs.Notation.{zeros, recordOf}
 use Rattle.model.specs.PaperTable.{k2}
 use Rattle.record_decoded.specs.Decoded.{eight, decodedLine, linesOf, initialOf, instructionAt, instructionsOf, pairsOf, executionOf}
 use Rattle.relation_links.specs.Operations.{operationAt, tableOf}
-use Rattle.relation_links.specs.Compiled.{Compiled}
+use Rattle.relation_links.specs.Compiled.{CompiledIn}
 use Rattle.relation_marks.specs.Marks.{earlierOf, givenPair, marksOf, marksBetween}
 use Rattle.relation_places.specs.Places.{placeFrom, placed, Placed}
 use Rattle.relation_places.proofs.PlaceLaws.{place-absent, placed-past}
@@ -81,7 +81,7 @@ unfolding all for count below member attributes roles operationCount next item b
 accepts = refl
 
 -- the table of operations, and the marks
-compiles : Compiled k2 k2Arrays k2Operations k2Marks
+compiles : CompiledIn k2 k2Arrays k2Operations k2Marks
 unfolding any for count below member allBelow packed packedOn roles remotesAt placeAmong operationCount operations operationsOf allOperations lineAt attributeAt addresses accesses overlap conflict executionOf linesOf decodedLine instructionsOf instructionAt pairsOf operationAt tableOf ruleMarks marks earlierOf givenPair marksOf marksBetween k2Arrays k2Operations k2Marks
 compiles = record { tabled = record { holds = refl; counts = refl }; marked = equal-two _ _ 2 2 refl }
 

@@ -11,7 +11,7 @@ use Rattle.record_decoded.specs.declared.types.Execution.{Execution}
 use Rattle.record_decoded.specs.Decoded.{executionOf}
 use Rattle.relation_links.specs.declared.operations.Operations.{Operations}
 use Rattle.relation_links.specs.Operations.{operationAt}
-use Rattle.relation_links.specs.Compiled.{Compiled}
+use Rattle.relation_links.specs.Compiled.{CompiledIn}
 use Rattle.relation_links.specs.Linked.{linkedAt}
 use Rattle.relation_links.proofs.LinkedLaws.{linked-means}
 
@@ -20,7 +20,7 @@ guarded : (t : Bool) {x y : Bool} → (t ≡ true → x ≡ y) → (t && x) ≡ 
 guarded true f = f refl
 guarded false f = refl
 
-module _ {bytes : List ℕ} {x : Execution} {t : Operations} {marks : List (List ℕ)} (h : Compiled bytes x t marks) (accepted : Accepted (executionOf bytes x)) where
+module _ {bytes : List ℕ} {x : Execution} {t : Operations} {marks : List (List ℕ)} (h : CompiledIn bytes x t marks) (accepted : Accepted (executionOf bytes x)) where
   pub preds-mean : (o a : ℕ) → o < t .count
       → (ltb a (t .count) && linkedAt (x .instructions) t marks a o)
       ≡ (ltb a (t .count) && linked (executionOf bytes x) (operationAt (x .instructions) t a) (operationAt (x .instructions) t o))

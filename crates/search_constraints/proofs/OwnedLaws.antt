@@ -22,13 +22,13 @@ use Rattle.record_decoded.specs.Decoded.{instructionAt, instructionsOf, executi
 use Rattle.relation_marks.specs.Marks.{markAt}
 use Rattle.relation_links.specs.declared.operations.Operations.{Operations}
 use Rattle.relation_links.specs.Operations.{operationAt, tableOf}
-use Rattle.relation_links.specs.Compiled.{Compiled}
+use Rattle.relation_links.specs.Compiled.{CompiledIn}
 use Rattle.relation_links.specs.Linked.{linkedBy, linkedAt}
 use Rattle.relation_links.proofs.LinkLaws.{operation-role, operation-number}
 use Rattle.relation_links.proofs.CompiledLaws.{operation-there, owner-there}
 use Rattle.search_constraints.specs.Rows.{linkedFrom, linkedOf}
 
-module _ {bytes : List ℕ} {x : Execution} {t : Operations} {marks : List (List ℕ)} (h : Compiled bytes x t marks) where
+module _ {bytes : List ℕ} {x : Execution} {t : Operations} {marks : List (List ℕ)} (h : CompiledIn bytes x t marks) where
   abbrev its : ℕ → model.Instruction
   its v = instructionAt (x .instructions) v
 

@@ -22,7 +22,7 @@ use Rattle.record_decoded.specs.declared.types.Execution.{Execution}
 use Rattle.record_decoded.specs.Decoded.{instructionAt, executionOf}
 use Rattle.relation_marks.specs.Marks.{hasMark, markAt, marksOf, marksBetween}
 use Rattle.relation_links.specs.declared.operations.Operations.{Operations}
-use Rattle.relation_links.specs.Compiled.{Compiled}
+use Rattle.relation_links.specs.Compiled.{CompiledIn}
 use Rattle.relation_links.proofs.LinkLaws.{operation-role}
 use Rattle.relation_links.proofs.CompiledLaws.{owner-there, owner-in, role-in, number-is}
 use Rattle.model.proofs.Numbers.{before-remotes}
@@ -60,7 +60,7 @@ module _ (marks role : ℕ) (kind : Kind) (first processors a : ℕ) where
     atomic-remotes l n = sym (rw (le-ltb role 3 l, sym f ∙ not-false r n) refl)
 
 -- the tables of an execution
-module _ {bytes : List ℕ} {x : Execution} {t : Operations} {marks : List (List ℕ)} (h : Compiled bytes x t marks) (accepted : Accepted (executionOf bytes x)) where
+module _ {bytes : List ℕ} {x : Execution} {t : Operations} {marks : List (List ℕ)} (h : CompiledIn bytes x t marks) (accepted : Accepted (executionOf bytes x)) where
   module _ (o : ℕ) (there : o < t .count) where
     abbrev owner : Instruction
     owner = instructionAt (x .instructions) (getD (t .owners) o 0)

@@ -17,7 +17,7 @@ use Rattle.record_decoded.specs.declared.types.Execution.{Execution}
 use Rattle.record_decoded.specs.Decoded.{instructionAt, executionOf}
 use Rattle.relation_links.specs.declared.operations.Operations.{Operations}
 use Rattle.relation_links.specs.Operations.{operationAt}
-use Rattle.relation_links.specs.Compiled.{Compiled}
+use Rattle.relation_links.specs.Compiled.{CompiledIn}
 use Rattle.relation_links.proofs.CompiledLaws.{few-instructions, owner-there}
 use Rattle.search_reduction.proofs.Ownership.{each-in}
 use Rattle.search_sets.specs.Set.{holds}
@@ -60,7 +60,7 @@ wanted-bit true c word i h = h
 wanted-bit false c word i h = zero-has i
 
 -- an owner is an instruction
-pub owner-few : {bytes : List ℕ} {x : Execution} {t : Operations} {marks : List (List ℕ)} → Compiled bytes x t marks → Accepted (executionOf bytes x) → (o : ℕ) → o < t .count
+pub owner-few : {bytes : List ℕ} {x : Execution} {t : Operations} {marks : List (List ℕ)} → CompiledIn bytes x t marks → Accepted (executionOf bytes x) → (o : ℕ) → o < t .count
     → {owners roles kinds firsts processors addresses : List ℕ} → Lent x t owners roles kinds firsts processors addresses
     → (w : ℕ) → w ≡ getD owners o 0 → (w < 40) × (w < x .instructions .count)
 owner-few {bytes} {x} h accepted o low lent w is =
@@ -75,7 +75,7 @@ in-lines bytes x accepted w l =
     fits-line (each-in (Sound (executionOf bytes x .processors) (length (executionOf bytes x .lines))) (accepted .sound)
     (numbered-in (record { bytes = bytes; execution = x; operations = record { count = 0; owners = []; roles = [] }; marks = []; rows = [] }) w l))
 
-module _ {bytes : List ℕ} {x : Execution} {t : Operations} {marks : List (List ℕ)} (h : Compiled bytes x t marks) (accepted : Accepted (executionOf bytes x)) (o : ℕ) (there : o < t .count)
+module _ {bytes : List ℕ} {x : Execution} {t : Operations} {marks : List (List ℕ)} (h : CompiledIn bytes x t marks) (accepted : Accepted (executionOf bytes x)) (o : ℕ) (there : o < t .count)
     {owners roles kinds firsts processors addresses : List ℕ} (lent : Lent x t owners roles kinds firsts processors addresses) where
   abbrev owner : ℕ
   owner = getD (t .owners) o 0

@@ -12,7 +12,7 @@ use Rattle.model.specs.Execution.{operations}
 use Rattle.record_decoded.specs.declared.types.Execution.{Execution}
 use Rattle.record_decoded.specs.Decoded.{executionOf}
 use Rattle.relation_links.specs.declared.operations.Operations.{Operations}
-use Rattle.relation_links.specs.Compiled.{Compiled}
+use Rattle.relation_links.specs.Compiled.{CompiledIn}
 use Rattle.search_admit.specs.Rows.{field, Bytes, RowOf, RowsMean}
 use Rattle.search_sets.specs.Set.{holds}
 use Rattle.search_rows.specs.Puts.{Put}
@@ -80,7 +80,7 @@ filled-more {bytes} {x} {t} {marks} {n} {rows} {o} inv l few row made {after} pu
         let e : o ≡ k = omega arith in
         subst (λ (j : ℕ). RowOf x t marks j bytes (λ f. field after f j)) e (row-same (λ f. getD row f 0) (λ f. field after f o) (λ f s. put .new f s) made)
 
-pub filled : {bytes : List ℕ} {x : Execution} {t : Operations} {marks : List (List ℕ)} {n : ℕ} {rows : List ℕ} {o : ℕ} → Filled bytes x t marks n rows o → n ≤ o → Compiled bytes x t marks → n ≡ operations (executionOf bytes x)
+pub filled : {bytes : List ℕ} {x : Execution} {t : Operations} {marks : List (List ℕ)} {n : ℕ} {rows : List ℕ} {o : ℕ} → Filled bytes x t marks n rows o → n ≤ o → CompiledIn bytes x t marks → n ≡ operations (executionOf bytes x)
     → Bytes (x .instructions .bytes) → Bytes bytes → RowsMean bytes x t marks rows
 filled {bytes} {x} {t} {marks} {n} {rows} {o} inv h compiled count b c = record {
   compiled = compiled;

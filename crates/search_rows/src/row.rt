@@ -104,7 +104,7 @@ pub fn row_of<'a>(
     values: &'a [u64; MOST_INSTRUCTIONS],
     o: OperationNo,
 ) -> [u64; ROW]
-    requires { ⌜ ((bytes : List ℕ) → Compiled bytes x t (now marks)) × ((bytes : List ℕ) → Accepted (executionOf bytes x)) × (o .0 < t .count) × Lent x t (now owners) (now roles) (now kinds) (now firsts) (now processors) (now addresses) × CoveredBits x (now bits) ⌝ }
+    requires { ⌜ Compiled x t (now marks) × ((bytes : List ℕ) → Accepted (executionOf bytes x)) × (o .0 < t .count) × Lent x t (now owners) (now roles) (now kinds) (now firsts) (now processors) (now addresses) × CoveredBits x (now bits) ⌝ }
     ensures { λ r. ⌜ ((bytes : List ℕ) → RelativeValues bytes x (now (values .entry)) → RowOf x t (now (marks .entry)) (o .0) bytes (λ (f : ℕ). getD r f 0)) ⌝ }
 {
     let every = x.processors;

@@ -45,7 +45,7 @@ pub fn rows_of(
     t: Operations,
     marks: &[[u16; MOST_INSTRUCTIONS]; MOST_INSTRUCTIONS],
 ) -> [u64; TABLE]
-    requires { ⌜ ((every : List ℕ) → Compiled every x t (now marks)) × Accepted (executionOf (now bytes) x) ⌝ }
+    requires { ⌜ Compiled x t (now marks) × Accepted (executionOf (now bytes) x) ⌝ }
     ensures { λ r. ⌜ RowsMean (now (bytes .entry)) x t (now (marks .entry)) r ⌝ }
 {
     let n = t.count;

@@ -45,7 +45,7 @@ lowest-broken-requires c κs =
     let x = c .before .before .before .before .before .before .before .before .before .before .before .args .x in
     let a = c .before .before .before .before .before .before .before .before .before .before .before .pre in
     let t = c .before .before .before .before .before .before .before .before .operations-of .ensures in
-    ((few-instructions bytes x a, few-lines bytes x a, few-processors bytes x a, omega (arith, t .counts, few-operations bytes x a)), compiled bytes x t (c .before .before .all-marks .ensures bytes))
+    ((few-instructions bytes x a, few-lines bytes x a, few-processors bytes x a, omega (arith, t .counts, few-operations bytes x a)), λ every. compiled every x t (c .before .before .all-marks .ensures every))
 
 enum-told : tie.Need-enum-told
 enum-told c = search needs

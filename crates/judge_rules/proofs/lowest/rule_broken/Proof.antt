@@ -1,6 +1,7 @@
 -- Each rule by its arm.
 use native.Mathlib.Omega.{arith}
 use mathlib.Core.Path.{_∙_}
+use mathlib.Core.List.{[]}
 use Rattle.relation_links.proofs.CompiledLaws.{owner-there}
 use Rattle.judge_rules.proofs.RuleMeaning.{means9, means10, means11, means12, means14, means-links}
 use borrow.Author.Needs.{needs}
@@ -25,28 +26,28 @@ pairs-broken-requires-4 c κs = search needs
 links-broken-requires : tie.Need-links-broken-requires
 links-broken-requires c κs =
     let pre = c .before .before .before .before .before .before .before .before .before .pre in
-    (pre .0 .5, λ o l. omega (arith, pre .0 .2, owner-there (pre .1) o l))
+    (pre .0 .5, λ o l. omega (arith, pre .0 .2, owner-there (pre .1 []) o l))
 
 returns : tie.Need-returns
-returns c = λ n xs p. c .pairs-broken .ensures ∙ means9 (c .before .before .before .before .pre .1) p (c .before .before .before .before .args .rule) (omega arith)
+returns c = λ n xs p. c .pairs-broken .ensures ∙ means9 (c .before .before .before .before .pre .1 (c .before .before .before .before .args .bytes .now)) p (c .before .before .before .before .args .rule) (omega arith)
 
 returns-2 : tie.Need-returns-2
-returns-2 c = λ n xs p. c .pairs-broken2 .ensures ∙ means10 (c .before .before .before .before .pre .1) p (c .before .before .before .before .args .rule) (omega arith)
+returns-2 c = λ n xs p. c .pairs-broken2 .ensures ∙ means10 (c .before .before .before .before .pre .1 (c .before .before .before .before .args .bytes .now)) p (c .before .before .before .before .args .rule) (omega arith)
 
 returns-3 : tie.Need-returns-3
-returns-3 c = λ n xs p. c .sights-broken .ensures n xs p ∙ means11 (c .before .before .before .before .pre .1) p (c .before .before .before .before .args .rule) (omega arith)
+returns-3 c = λ n xs p. c .sights-broken .ensures n xs p ∙ means11 (c .before .before .before .before .pre .1 (c .before .before .before .before .args .bytes .now)) p (c .before .before .before .before .args .rule) (omega arith)
 
 returns-4 : tie.Need-returns-4
-returns-4 c = λ n xs p. c .pairs-broken3 .ensures ∙ means12 (c .before .before .before .before .pre .1) p (c .before .before .before .before .args .rule) (omega arith)
+returns-4 c = λ n xs p. c .pairs-broken3 .ensures ∙ means12 (c .before .before .before .before .pre .1 (c .before .before .before .before .args .bytes .now)) p (c .before .before .before .before .args .rule) (omega arith)
 
 returns-5 : tie.Need-returns-5
-returns-5 c = λ n xs p. c .pairs-broken4 .ensures ∙ means14 (c .before .before .before .before .pre .1) p (c .before .before .before .before .args .rule) (omega arith)
+returns-5 c = λ n xs p. c .pairs-broken4 .ensures ∙ means14 (c .before .before .before .before .pre .1 (c .before .before .before .before .args .bytes .now)) p (c .before .before .before .before .args .rule) (omega arith)
 
 returns-6 : tie.Need-returns-6
 returns-6 c = λ n xs p.
     let r = c .before .before .before .before .before .before .before .match .rest in
     let pre = c .before .before .before .before .before .before .before .before .before .before .pre in
-    c .links-broken .ensures ∙ means-links (pre .1) p (c .before .before .before .before .before .before .before .before .before .before .args .rule) (pre .0 .0) (pre .0 .1) (r .0 .0 .0 .0 .1) (r .0 .0 .0 .1) (r .0 .0 .1) (r .0 .1) (r .1)
+    c .links-broken .ensures ∙ means-links (pre .1 (c .before .before .before .before .before .before .before .before .before .before .args .bytes .now)) p (c .before .before .before .before .before .before .before .before .before .before .args .rule) (pre .0 .0) (pre .0 .1) (r .0 .0 .0 .0 .1) (r .0 .0 .0 .1) (r .0 .0 .1) (r .0 .1) (r .1)
 
 pub rule-broken-spec : {M : Type 1} → statement M
 rule-broken-spec =
