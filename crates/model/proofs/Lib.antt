@@ -11,5 +11,6 @@ pub mod Numbers
 pub mod Roles
 pub mod Uncacheable
 pub mod Unread
+pub mod Walked
 pub mod Empty
 pub mod Quoted

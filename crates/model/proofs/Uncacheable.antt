@@ -3,21 +3,22 @@ use Prim.Native.Nat.{ℕ, zero, suc, _+_, _*_, _/_, _%_, _≤_, _<_}
 use native.Mathlib.Omega.{arith}
 use mathlib.Core.Path.{_≡_, refl, sym, ap, ap₂, _∙_, subst}
 use mathlib.Core.Bool.{Bool, true, not, _&&_, _||_}
-use mathlib.Core.List.{List, [], _∷_, _++_, map, map-append}
-use lib.ListN.{length, getD, take, drop, List·getD-map}
-use lib.Seq.{getD-take, getD-drop}
+use mathlib.Core.List.{List, [], _∷_, map}
+use lib.ListN.{length, getD, take, drop, length-map, List·getD-map}
+use lib.Seq.{getD-take, getD-drop, ext-getD}
 use lib.Dec.{eqb, ltb}
 use borrow.Author.Tests.{eq-eqb, ne-eqb, eqb-true, lt-ltb, ltb-true}
 use Rattle.base.specs.Lists.{any, keep, when, for, count, below, member}
 use Rattle.base.proofs.Bools.{split, agree, and-parts, and-both}
 use Rattle.base.proofs.Lists.{any-witness, any-member, any-map, member-any, in-below, of-below}
 use Rattle.model.specs.Execution.{Attribute, WB, UC, WC, attributeNumber, attributeOf, attributes, isWB, isUC, sameDomain, Line, noLine, Instruction, Execution, Operation, isRelease, R, LV, numberOf, operations, allOperations, everyProcessor, stores, loads, lineAt, attributeAt, initialByte}
-use Rattle.model.specs.Questions.{found, item, byte, ask, many, question2, question3, question4, question15, lineOf, readLine, readLines, readInstructions, readPairs, readRecord}
+use Rattle.model.specs.Questions.{question4, lineOf}
 use Rattle.model.specs.Rules.{isRorLV, earlier, paired, link8, inWB, inUC, inOneDomain, link13, Claim, never, sees, addresses, overlap, RV-own, linksOf, conflict, forConflicts, rule9, rule10, sightOf, rule11, remoteOf, rule12, rule14, rules}
 use Rattle.model.specs.Calls.{judgeOrder, judgeCall, searchSaved, searchReply, searching, searchCall, tableMarks, tableReply, tabling, tableCall}
 use Rattle.model.specs.Claims.{AttributeNumbers, withoutDomain, lineWithoutDomain, oneDomain, oldLink13, oldRules, OneDomain, attributeByte, OldRecords}
 use Rattle.model.proofs.Asking.{after-says}
-use Rattle.model.proofs.Accepted.{step, asked-on, byte-came, item-came, many-length, read-found}
+use Rattle.model.proofs.Accepted.{read-found}
+use Rattle.model.proofs.Walked.{Begins, begins}
 
 -- Attributes and their numbers
 
@@ -177,67 +178,32 @@ old-line : (x : List ℕ) → getD x 0 0 ≤ 2 → lineWithoutDomain (lineOf x) 
 unfolding lineOf
 old-line x h = λ i. record { attribute = old-attribute (getD x 0 0) h i; initial = drop 1 x }
 
--- a line is the next nine bytes
-pub line-came : (bytes : List ℕ) (l : Line) (r : List ℕ) → readLine bytes ≡ found l r → (lineOf (take 9 bytes) ≡ l) × (drop 9 bytes ≡ r)
-unfolding readLine
-line-came bytes l r h =
-    step (item 9 bytes) _ l r h (λ x b1 e1 h1.
-    step (ask 4 _ b1) _ l r h1 (λ u2 b2 e2 h2.
-    let (_, t, d) = item-came 9 bytes x b1 e1 in
-    let w = asked-on 4 (question4 (getD x 0 0)) b1 u2 b2 e2 in
-    (cc, cc)))
-
-many-old : (n : ℕ) (before : List Line) (bytes : List ℕ) (lines : List Line) (r : List ℕ)
-    → map lineWithoutDomain before ≡ before → ((k : ℕ) → k < n → getD bytes (9 * k) 0 ≤ 2)
-    → many (λ d. readLine) n before bytes ≡ found lines r → map lineWithoutDomain lines ≡ lines
-unfolding many
-many-old zero before bytes lines r same old h = let z : before ≡ lines = cc in subst (λ (l : List Line). map lineWithoutDomain l ≡ l) z same
-many-old (suc n) before bytes lines r same old h =
-    step (readLine bytes) _ lines r h (λ l rest e k.
-    let (is-line, is-rest) = line-came bytes l rest e in
-    let first : getD (take 9 bytes) 0 0 ≤ 2 = omega (arith, getD-take 9 bytes 0 0 (omega arith), old 0 (omega arith)) in
-    let kept = subst (λ (m : Line). lineWithoutDomain m ≡ m) is-line (old-line (take 9 bytes) first) in
-    many-old n (before ++ (l ∷ [])) rest lines r
-    (map-append lineWithoutDomain before (l ∷ []) ∙ ap₂ (λ (x y : List Line). x ++ y) same (ap (λ (m : Line). m ∷ []) kept))
-    (λ j less. subst (λ (b : List ℕ). getD b (9 * j) 0 ≤ 2) is-rest
-    (subst (λ (m : ℕ). m ≤ 2) (ap (λ (i : ℕ). getD bytes i 0) (omega arith) ∙ sym (getD-drop 9 bytes (9 * j) 0)) (old (suc j) (omega arith)))) k)
-
-lines-old : (bytes : List ℕ) (lines : List Line) (r : List ℕ) → readLines bytes ≡ found lines r
-    → ((k : ℕ) → k < length lines → getD bytes (suc (9 * k)) 0 ≤ 2) → map lineWithoutDomain lines ≡ lines
-unfolding readLines
-lines-old bytes lines r h old =
-    step (byte bytes) _ lines r h (λ n b1 e1 h1.
-    step (ask 3 _ b1) _ lines r h1 (λ u2 b2 e2 h2.
-    let counted = many-length (λ d. readLine) n [] b2 lines r h2 in
-    let w = asked-on 3 (question3 n) b1 u2 b2 e2 in
-    let bytes-are : bytes ≡ n ∷ b2 = byte-came bytes n b1 e1 ∙ ap (λ (b : List ℕ). n ∷ b) w in
-    many-old n [] b2 lines r refl
-    (λ k less. subst (λ (b : List ℕ). getD b (suc (9 * k)) 0 ≤ 2) bytes-are (old k (omega arith))) h2))
-
 -- the execution of an old record has one domain
-one-was : (bytes : List ℕ) (e : Execution) (rest : List ℕ) → readRecord bytes ≡ found e rest
-    → ((k : ℕ) → k < length (e .lines) → attributeByte bytes k ≤ 2) → oneDomain e ≡ e
-unfolding readRecord oneDomain
-one-was bytes e rest h old =
-    step (byte bytes) _ e rest h (λ p b1 e1 h1.
-    step (ask 2 _ b1) _ e rest h1 (λ u2 b2 e2 h2.
-    step (readLines b2) _ e rest h2 (λ lines b3 e3 h3.
-    step (readInstructions p (length lines) b3) _ e rest h3 (λ is b4 e4 h4.
-    step (readPairs is b4) _ e rest h4 (λ pairs b5 e5 h5.
-    step (question15 b5) _ e rest h5 (λ u6 b6 e6 h6.
-    let z : record { processors = p; lines = lines; instructions = is; pairs = pairs } ≡ e = cc in
-    let w = asked-on 2 (question2 p) b1 u2 b2 e2 in
-    let bytes-are : bytes ≡ p ∷ b2 = byte-came bytes p b1 e1 ∙ ap (λ (b : List ℕ). p ∷ b) w in
-    let same = lines-old b2 lines b3 e3 (λ k less.
-    subst (λ (b : List ℕ). getD b (suc (suc (9 * k))) 0 ≤ 2) bytes-are
-    (subst (λ (i : ℕ). getD bytes i 0 ≤ 2) (omega arith) (old k (subst (λ (d : Execution). k < length (d .lines)) z less)))) in
-    subst (λ (d : Execution). oneDomain d ≡ d) z (λ i. record { processors = p; lines = same i; instructions = is; pairs = pairs })))))))
+one-was : (bytes : List ℕ) (e : Execution) → Begins bytes e → ((k : ℕ) → k < length (e .lines) → attributeByte bytes k ≤ 2) → oneDomain e ≡ e
+unfolding oneDomain
+one-was bytes e w old = λ i. record { processors = e .processors; lines = same i; instructions = e .instructions; pairs = e .pairs }
+  where
+    first : (k : ℕ) → getD (take 9 (drop (9 * k) (drop 2 bytes))) 0 0 ≡ attributeByte bytes k
+    first k =
+        let place : 2 + (9 * k + 0) ≡ 2 + 9 * k = omega arith in
+        getD-take 9 (drop (9 * k) (drop 2 bytes)) 0 0 (omega arith) ∙ getD-drop (9 * k) (drop 2 bytes) 0 0 ∙ getD-drop 2 bytes (9 * k + 0) 0
+        ∙ ap (λ (i : ℕ). getD bytes i 0) place
+
+    line-was : (k : ℕ) → k < length (e .lines) → lineWithoutDomain (getD (e .lines) k noLine) ≡ getD (e .lines) k noLine
+    line-was k l =
+        subst (λ (m : Line). lineWithoutDomain m ≡ m) (sym (w .line-is k l))
+        (old-line (take 9 (drop (9 * k) (drop 2 bytes))) (subst (λ (n : ℕ). n ≤ 2) (sym (first k)) (old k l)))
+
+    same : map lineWithoutDomain (e .lines) ≡ e .lines
+    same =
+        ext-getD noLine (map lineWithoutDomain (e .lines)) (e .lines) (length-map (e .lines) lineWithoutDomain)
+        (λ k l. List·getD-map lineWithoutDomain (e .lines) k noLine ∙ line-was k (omega (arith, l, length-map (e .lines) lineWithoutDomain)))
 
 pub old-records : OldRecords
 unfolding judgeCall searchCall searching tableCall tabling
 old-records bytes e h old =
     let (rest, f) = read-found bytes e h in
-    let one = one-was bytes e rest f old in
+    let one = one-was bytes e (begins bytes e rest f) old in
     record {
       one = one;
       rules-are = ap rules (sym one) ∙ rules-one e;
