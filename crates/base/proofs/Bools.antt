@@ -34,12 +34,19 @@ and-left a b h = and-parts a b h .0
 pub and-both : {a b : Bool} → a ≡ true → b ≡ true → (a && b) ≡ true
 and-both {a} {b} h k = rw h k
 
+pub not-both : {a b : Bool} → (a && b) ≡ false → a ≡ true → b ≡ false
+not-both h t = rw t at h
+
 pub or-cases : {C : Type 0} (a b : Bool) → (a || b) ≡ true → (a ≡ true → C) → (b ≡ true → C) → C
 or-cases true b h f g = f refl
 or-cases false b h f g = g h
 
 pub or-parts : (a b : Bool) → (a || b) ≡ true → (a ≡ true) ⊎ (b ≡ true)
 or-parts a b h = or-cases a b h inl inr
+
+pub or-left : (a b : Bool) → a ≡ true → (a || b) ≡ true
+or-left true b h = refl
+or-left false b h = absurd (false≢true h)
 
 pub or-right : (a b : Bool) → b ≡ true → (a || b) ≡ true
 or-right true b h = refl

@@ -7,11 +7,11 @@ use mathlib.Core.Bool.{Bool, true, false, not, cond, _&&_, _||_, and-true, and-f
 use mathlib.Core.List.{List, [], _∷_, _++_, append-nil, append-assoc, map, map-append, List·Memᴰ, List·Memᴰ·head, List·Memᴰ·tail, List·Memᴰ·not-nil, List·Memᴰ·append-cases, Memᴰ·append-left, Memᴰ·append-right, List·Memᴰ·cases-cons}
 use mathlib.Core.Logic.{_⊎_, inl, inr, ⊎-elim}
 use lib.Dec.{eqb, ltb}
-use lib.ListN.{length, getD}
+use lib.ListN.{length, getD, length-append}
 use lib.Seq.{append-snoc}
-use borrow.Author.Tests.{eq-eqb, eqb-true, ltb-true}
+use borrow.Author.Tests.{eq-eqb, eqb-true, ltb-true, lt-ltb}
 use Rattle.base.specs.Lists.{all, any, keep, when, for, count, below, member, distinct}
-use Rattle.base.proofs.Bools.{and-parts}
+use Rattle.base.proofs.Bools.{split, clash, is-false, and-parts, and-both}
 
 module _ {A : Type 0} where
   -- tests that agree on the elements agree on the list
@@ -50,6 +50,10 @@ module _ {A : Type 0} where
       go : (c : Bool) → any p l ≡ true → (c || any p l) ≡ true
       go true k = refl
       go false k = k
+
+  -- none passes, so this one does not
+  pub any-fails : (p : A → Bool) {a : A} {l : List A} → List·Memᴰ a l → any p l ≡ false → p a ≡ false
+  any-fails p {a} m h = is-false (p a) (λ t. clash (any-member p m t) h)
 
   pub any-append : (p : A → Bool) (l m : List A) → any p (l ++ m) ≡ (any p l || any p m)
   unfolding any
@@ -122,6 +126,10 @@ module _ {A : Type 0} where
       go true e (List·Memᴰ·head k) f = (List·Memᴰ·head k, ap p k ∙ e)
       go true e (List·Memᴰ·tail k) f = let r = f k in (List·Memᴰ·tail (r .0), r .1)
       go false e k f = let r = f k in (List·Memᴰ·tail (r .0), r .1)
+
+  pub in-when : {a : A} {b : Bool} {l : List A} → b ≡ true → List·Memᴰ a l → List·Memᴰ a (when b l)
+  unfolding when
+  in-when h m = rw h m
 
   -- fewer elements pass a stronger test, and fewer still where it refuses one
   pub keep-fewer : (p q : A → Bool) → ((a : A) → p a ≡ true → q a ≡ true) → (l : List A) → length (keep p l) ≤ length (keep q l)
@@ -356,6 +364,14 @@ pub distinct-length : (n : ℕ) (xs : List ℕ) → distinct n [] xs ≡ true �
 unfolding free below
 distinct-length n xs h =
     omega (arith, distinct-free n [] xs h, keep-length (λ a. not (member [] a)) (count 0 n), length-count 0 n)
+
+-- n different numbers below n are all of them
+pub distinct-full : (n : ℕ) (xs : List ℕ) → distinct n [] xs ≡ true → length xs ≡ n → (a : ℕ) → a < n → member xs a ≡ true
+distinct-full n xs h full a l =
+    split (member xs a) (λ t. t)
+    (λ f.
+    let more : distinct n [] (xs ++ (a ∷ [])) ≡ true = distinct-append n [] xs a ∙ and-both h (and-both (lt-ltb a n l) (ap not f)) in
+    absurd (omega (arith, distinct-length n (xs ++ (a ∷ [])) more, length-append xs (a ∷ []))))
 
 -- different numbers: so are the first k
 pub distinct-first : (n : ℕ) (passed xs ys : List ℕ) → distinct n passed (xs ++ ys) ≡ true → distinct n passed xs ≡ true

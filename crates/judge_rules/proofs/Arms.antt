@@ -6,7 +6,7 @@ use mathlib.Core.List.{List}
 use borrow.Author.Tests.{ne-eqb}
 use Rattle.model.specs.Execution.{Instruction}
 use Rattle.relation_marks.specs.Marks.{hasMark}
-use Rattle.judge_rules.specs.Tests.{ownTurned, remoteTurned, releaseSplit, bypassed, pairBroken}
+use Rattle.judge_rules.specs.Tests.{ownTurned, remoteTurned, releaseSplit, bypassed, interrupted, pairBroken}
 
 module _ (places : List ℕ) (rule m N P : ℕ) (v w : Instruction) where
   as-rule : (k : ℕ) → rule ≡ k → pairBroken places k m N P v w ≡ pairBroken places rule m N P v w
@@ -28,6 +28,10 @@ module _ (places : List ℕ) (rule m N P : ℕ) (v w : Instruction) where
   unfolding pairBroken
   rule14-is e = as-rule 14 e
 
-  pub other-rule : (rule ≡ 9 → ⊥) → (rule ≡ 10 → ⊥) → (rule ≡ 12 → ⊥) → (rule ≡ 14 → ⊥) → false ≡ pairBroken places rule m N P v w
+  pub rule16-is : rule ≡ 16 → (hasMark m 1024 && interrupted places v w) ≡ pairBroken places rule m N P v w
   unfolding pairBroken
-  other-rule a b c d = rw (ne-eqb rule 9 a, ne-eqb rule 10 b, ne-eqb rule 12 c, ne-eqb rule 14 d) refl
+  rule16-is e = as-rule 16 e
+
+  pub other-rule : (rule ≡ 9 → ⊥) → (rule ≡ 10 → ⊥) → (rule ≡ 12 → ⊥) → (rule ≡ 14 → ⊥) → (rule ≡ 16 → ⊥) → false ≡ pairBroken places rule m N P v w
+  unfolding pairBroken
+  other-rule a b c d e = rw (ne-eqb rule 9 a, ne-eqb rule 10 b, ne-eqb rule 12 c, ne-eqb rule 14 d, ne-eqb rule 16 e) refl

@@ -13,28 +13,30 @@ use Rattle.model.specs.Rules.{Claim, must, broken, linksOf, rules, lowestFrom, 
 use Rattle.relation_links.specs.Links.{linkOf}
 
 -- the rules of links
-pub link-rule : (e : Execution) (rule : ℕ) → 1 ≤ rule → rule ≤ 14 → (rule ≡ 9 → ⊥) → (rule ≡ 10 → ⊥) → (rule ≡ 11 → ⊥) → (rule ≡ 12 → ⊥) → (rule ≡ 14 → ⊥)
+pub link-rule : (e : Execution) (rule : ℕ) → 1 ≤ rule → rule ≤ 16 → (rule ≡ 9 → ⊥) → (rule ≡ 10 → ⊥) → (rule ≡ 11 → ⊥) → (rule ≡ 12 → ⊥) → (rule ≡ 14 → ⊥) → (rule ≡ 16 → ⊥)
     → getD (rules e) (rule - 1) [] ≡ map must (linksOf e (linkOf e rule))
 unfolding rules linkOf
-link-rule e zero a b p q r s t = absurd (omega arith)
-link-rule e (suc zero) a b p q r s t = refl
-link-rule e (suc (suc zero)) a b p q r s t = refl
-link-rule e (suc (suc (suc zero))) a b p q r s t = refl
-link-rule e (suc (suc (suc (suc zero)))) a b p q r s t = refl
-link-rule e (suc (suc (suc (suc (suc zero))))) a b p q r s t = refl
-link-rule e (suc (suc (suc (suc (suc (suc zero)))))) a b p q r s t = refl
-link-rule e (suc (suc (suc (suc (suc (suc (suc zero))))))) a b p q r s t = refl
-link-rule e (suc (suc (suc (suc (suc (suc (suc (suc zero)))))))) a b p q r s t = refl
-link-rule e (suc (suc (suc (suc (suc (suc (suc (suc (suc zero))))))))) a b p q r s t = absurd (p refl)
-link-rule e (suc (suc (suc (suc (suc (suc (suc (suc (suc (suc zero)))))))))) a b p q r s t = absurd (q refl)
-link-rule e (suc (suc (suc (suc (suc (suc (suc (suc (suc (suc (suc zero))))))))))) a b p q r s t = absurd (r refl)
-link-rule e (suc (suc (suc (suc (suc (suc (suc (suc (suc (suc (suc (suc zero)))))))))))) a b p q r s t = absurd (s refl)
-link-rule e (suc (suc (suc (suc (suc (suc (suc (suc (suc (suc (suc (suc (suc zero))))))))))))) a b p q r s t = refl
-link-rule e (suc (suc (suc (suc (suc (suc (suc (suc (suc (suc (suc (suc (suc (suc k)))))))))))))) a b p q r s t = absurd (t (omega arith))
+link-rule e zero a b p q r s t u = absurd (omega arith)
+link-rule e (suc zero) a b p q r s t u = refl
+link-rule e (suc (suc zero)) a b p q r s t u = refl
+link-rule e (suc (suc (suc zero))) a b p q r s t u = refl
+link-rule e (suc (suc (suc (suc zero)))) a b p q r s t u = refl
+link-rule e (suc (suc (suc (suc (suc zero))))) a b p q r s t u = refl
+link-rule e (suc (suc (suc (suc (suc (suc zero)))))) a b p q r s t u = refl
+link-rule e (suc (suc (suc (suc (suc (suc (suc zero))))))) a b p q r s t u = refl
+link-rule e (suc (suc (suc (suc (suc (suc (suc (suc zero)))))))) a b p q r s t u = refl
+link-rule e (suc (suc (suc (suc (suc (suc (suc (suc (suc zero))))))))) a b p q r s t u = absurd (p refl)
+link-rule e (suc (suc (suc (suc (suc (suc (suc (suc (suc (suc zero)))))))))) a b p q r s t u = absurd (q refl)
+link-rule e (suc (suc (suc (suc (suc (suc (suc (suc (suc (suc (suc zero))))))))))) a b p q r s t u = absurd (r refl)
+link-rule e (suc (suc (suc (suc (suc (suc (suc (suc (suc (suc (suc (suc zero)))))))))))) a b p q r s t u = absurd (s refl)
+link-rule e (suc (suc (suc (suc (suc (suc (suc (suc (suc (suc (suc (suc (suc zero))))))))))))) a b p q r s t u = refl
+link-rule e (suc (suc (suc (suc (suc (suc (suc (suc (suc (suc (suc (suc (suc (suc zero)))))))))))))) a b p q r s t u = absurd (t refl)
+link-rule e (suc (suc (suc (suc (suc (suc (suc (suc (suc (suc (suc (suc (suc (suc (suc zero))))))))))))))) a b p q r s t u = refl
+link-rule e (suc (suc (suc (suc (suc (suc (suc (suc (suc (suc (suc (suc (suc (suc (suc (suc k)))))))))))))))) a b p q r s t u = absurd (u (omega arith))
 
-fourteen : (e : Execution) → length (rules e) ≡ 14
+sixteen : (e : Execution) → length (rules e) ≡ 16
 unfolding rules
-fourteen e = refl
+sixteen e = refl
 
 -- rule k + 1 by its index
 pub at-index : (e : Execution) (xs : List ℕ) (k : ℕ) → any (broken xs) (getD (rules e) k []) ≡ any (broken xs) (getD (rules e) (k + 1 - 1) [])
@@ -49,23 +51,23 @@ unfolding lowestBroken
 decided-first e xs = record { rest = refl }
 
 module _ {e : Execution} {xs : List ℕ} {k : ℕ} (inv : Decided e xs k) where
-  next : k < 14 → lowestBroken e xs ≡ cond (any (broken xs) (getD (rules e) k [])) (some (suc k)) (lowestFrom (suc (suc k)) (drop (suc k) (rules e)) xs)
+  next : k < 16 → lowestBroken e xs ≡ cond (any (broken xs) (getD (rules e) k [])) (some (suc k)) (lowestFrom (suc (suc k)) (drop (suc k) (rules e)) xs)
   unfolding lowestFrom
-  next l = inv .rest ∙ ap (λ (r : List (List Claim)). lowestFrom (suc k) r xs) (drop-cons (rules e) k [] (omega (arith, fourteen e)))
+  next l = inv .rest ∙ ap (λ (r : List (List Claim)). lowestFrom (suc k) r xs) (drop-cons (rules e) k [] (omega (arith, sixteen e)))
 
   -- rule k + 1 is broken
-  pub decided-broken : k < 14 → any (broken xs) (getD (rules e) k []) ≡ true → some (k + 1) ≡ lowestBroken e xs
+  pub decided-broken : k < 16 → any (broken xs) (getD (rules e) k []) ≡ true → some (k + 1) ≡ lowestBroken e xs
   decided-broken l h =
       sym (next l ∙ ap (λ (b : Bool). cond b (some (suc k)) (lowestFrom (suc (suc k)) (drop (suc k) (rules e)) xs)) h ∙ ap some (let z : suc k ≡ k + 1 = omega arith in z))
 
   -- it is kept
-  pub decided-more : k < 14 → any (broken xs) (getD (rules e) k []) ≡ false → Decided e xs (k + 1)
+  pub decided-more : k < 16 → any (broken xs) (getD (rules e) k []) ≡ false → Decided e xs (k + 1)
   decided-more l h = record {
     rest = next l ∙ ap (λ (b : Bool). cond b (some (suc k)) (lowestFrom (suc (suc k)) (drop (suc k) (rules e)) xs)) h
         ∙ ap (λ (j : ℕ). lowestFrom (suc j) (drop j (rules e)) xs) (let z : suc k ≡ k + 1 = omega arith in z);
   }
 
   -- all are kept
-  pub decided-none : 14 ≤ k → none ≡ lowestBroken e xs
+  pub decided-none : 16 ≤ k → none ≡ lowestBroken e xs
   unfolding lowestFrom
-  decided-none h = sym (inv .rest ∙ ap (λ (r : List (List Claim)). lowestFrom (suc k) r xs) (drop-of-length-le (rules e) {i = k} (omega (arith, fourteen e))))
+  decided-none h = sym (inv .rest ∙ ap (λ (r : List (List Claim)). lowestFrom (suc k) r xs) (drop-of-length-le (rules e) {i = k} (omega (arith, sixteen e))))

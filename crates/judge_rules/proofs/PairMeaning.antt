@@ -13,15 +13,15 @@ use Rattle.base.proofs.Bits.{bit-packed}
 use Rattle.base.proofs.Lists.{any-same, any-for, any-map, any-when, any-one, any-and, any-and-after, any-keep, any-swap, member-any}
 use Rattle.base.proofs.Tests.{any-numbered, any-below, any-below-same, any-below-and, any-below-and-after, any-passes}
 use Rattle.model.specs.Execution as model
-use Rattle.model.specs.Execution.{isLoad, isStore, isRelease, R, LV, RV, numberOf, stores, loads, everyProcessor, operations}
-use Rattle.model.specs.Rules.{before, overlap, inWB, inUC, Claim, never, broken, RV-own, conflict, forConflicts, rule9, rule10, remoteOf, rule12, rule14}
+use Rattle.model.specs.Execution.{isLoad, isStore, isSemaphore, isRelease, R, LV, RV, numberOf, stores, semaphores, loads, everyProcessor, operations}
+use Rattle.model.specs.Rules.{before, overlap, inWB, inUC, Claim, never, broken, RV-own, conflict, forConflicts, rule9, rule10, remoteOf, rule12, rule14, rule16}
 use Rattle.record_decoded.specs.declared.types.Execution.{Execution}
 use Rattle.record_decoded.specs.Decoded.{instructionAt, instructionsOf, executionOf}
 use Rattle.relation_places.specs.Places.{Placed, beforeBy}
 use Rattle.relation_places.proofs.PlaceLaws.{before-placed}
 use Rattle.relation_marks.specs.Marks.{hasMark, markAt, marksOf, marksBetween}
 use Rattle.relation_links.specs.declared.operations.Operations.{Operations}
-use Rattle.judge_rules.specs.Tests.{remoteBefore, ownTurned, remoteTurned, releaseSplitBy, releaseSplit, bypassed, pairBroken, pairsBroken}
+use Rattle.judge_rules.specs.Tests.{remoteBefore, ownTurned, remoteTurned, releaseSplitBy, releaseSplit, bypassed, interrupted, pairBroken, pairsBroken}
 use Rattle.relation_links.specs.Compiled.{CompiledIn}
 
 -- the order of the tests of rule 12
@@ -140,6 +140,24 @@ module _ (bytes : List ℕ) (x : Execution) where
       where
         exposed : model.Instruction → model.Instruction → Bool
         exposed w l = inUC e w && (eqb (w .processor) (l .processor) && overlap w l)
+
+    pub rule16-means : (N : ℕ) → pairsBroken places 16 (x .instructions) marks N (x .processors) ≡ any (broken xs) (rule16 e)
+    unfolding rule16 pairBroken interrupted semaphores stores marksOf broken
+    rule16-means N =
+        arm 16 N (x .processors) (λ m i j. hasMark m 1024 && interrupted places (instruction i) (instruction j)) (λ i j. refl)
+        ∙ sym (any-for (broken xs) (semaphores e) _
+        ∙ any-same _ _ (semaphores e) (λ s m. any-for (broken xs) (stores e) _ ∙ any-same _ _ (stores e) (λ w k. any-when (broken xs) (another s w) _ ∙ ap (λ (u : Bool). another s w && u) (any-one (broken xs) _)))
+        ∙ pairs-by-number (λ i. isSemaphore (i .kind)) (λ i. isStore (i .kind))
+        (λ s w. another s w && (before xs (numberOf s R) (numberOf w (RV (s .processor))) && before xs (numberOf w (RV (s .processor))) (RV-own s)))
+        ∙ any-below-same _ _ number (λ i a. any-below-same _ _ number (λ j b.
+        ap (λ (u : Bool). isSemaphore (instruction i .kind) && (isStore (instruction j .kind) && (another (instruction i) (instruction j) && u)))
+        (ap₂ _&&_ (before-placed p (numberOf (instruction i) R) (numberOf (instruction j) (RV (instruction i .processor))))
+        (before-placed p (numberOf (instruction j) (RV (instruction i .processor))) (RV-own (instruction i))))
+        ∙ four (isSemaphore (instruction i .kind)) (isStore (instruction j .kind)) (another (instruction i) (instruction j)) (interrupted places (instruction i) (instruction j))
+        ∙ ap (λ (u : Bool). u && interrupted places (instruction i) (instruction j)) (sym (bit-is 10 i j a b)))))
+      where
+        another : model.Instruction → model.Instruction → Bool
+        another s w = not (eqb (s .number) (w .number)) && overlap s w
 
     -- the operations that split the RVs of a store
     split-means : (i N : ℕ) → any (λ a. any (λ c. any (broken xs) (for (keep (λ o. not (member (remoteOf e (instruction i)) o)) (below N)) (λ o. never a o c ∷ []))) (remoteOf e (instruction i))) (remoteOf e (instruction i))

@@ -14,7 +14,7 @@ use Rattle.relation_links.specs.declared.operations.Operations.{Operations}
 use Rattle.judge_rules.specs.Tests.{pairsBroken, linksBroken}
 use Rattle.relation_links.specs.Compiled.{CompiledIn}
 use Rattle.judge_rules.proofs.LinkMeaning.{links-mean}
-use Rattle.judge_rules.proofs.PairMeaning.{rule9-means, rule10-means, rule12-means, rule14-means}
+use Rattle.judge_rules.proofs.PairMeaning.{rule9-means, rule10-means, rule12-means, rule14-means, rule16-means}
 use Rattle.judge_rules.proofs.LowestLaws.{link-rule}
 
 module _ {bytes : List ℕ} {x : Execution} {t : Operations} {marks : List (List ℕ)} (h : CompiledIn bytes x t marks) {n : ℕ} {xs places : List ℕ} (p : Placed n xs places) (rule : ℕ) where
@@ -51,6 +51,10 @@ module _ {bytes : List ℕ} {x : Execution} {t : Operations} {marks : List (List
   unfolding rules
   means14 q = by-number 14 q (rule14-means bytes x h p (t .count))
 
-  pub means-links : 1 ≤ rule → rule ≤ 14 → (rule ≡ 9 → ⊥) → (rule ≡ 10 → ⊥) → (rule ≡ 11 → ⊥) → (rule ≡ 12 → ⊥) → (rule ≡ 14 → ⊥)
+  pub means16 : rule ≡ 16 → pairs rule ≡ breaks rule
+  unfolding rules
+  means16 q = by-number 16 q (rule16-means bytes x h p (t .count))
+
+  pub means-links : 1 ≤ rule → rule ≤ 16 → (rule ≡ 9 → ⊥) → (rule ≡ 10 → ⊥) → (rule ≡ 11 → ⊥) → (rule ≡ 12 → ⊥) → (rule ≡ 14 → ⊥) → (rule ≡ 16 → ⊥)
       → linksBroken places rule (t .count) (t .owners) (t .roles) (x .instructions .processors) marks ≡ breaks rule
-  means-links a b c9 c10 c11 c12 c14 = links-mean h p rule ∙ ap (any (broken xs)) (sym (link-rule e rule a b c9 c10 c11 c12 c14))
+  means-links a b c9 c10 c11 c12 c14 c16 = links-mean h p rule ∙ ap (any (broken xs)) (sym (link-rule e rule a b c9 c10 c11 c12 c14 c16))

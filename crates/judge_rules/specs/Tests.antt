@@ -11,7 +11,7 @@ use Rattle.record_decoded.specs.Kinds.{roleNumbered}
 use Rattle.record_decoded.specs.Decoded.{instructionAt}
 use Rattle.record_decoded.specs.declared.types.Instructions.{Instructions}
 use Rattle.relation_places.specs.Places.{beforeBy}
-use Rattle.relation_marks.specs.Marks.{hasMark, conflictMark, bypassMark, atomicMark, markAt}
+use Rattle.relation_marks.specs.Marks.{hasMark, conflictMark, bypassMark, atomicMark, lockMark, markAt}
 use Rattle.relation_links.specs.Links.{linkBy}
 
 module _ (places : List ℕ) where
@@ -45,20 +45,26 @@ module _ (places : List ℕ) where
   unfoldable pub bypassed : Instruction → Instruction → Bool
   bypassed v w = beforeBy places (numberOf v LV) (numberOf w R) && beforeBy places (numberOf w R) (RV-own v)
 
+  -- 16: R of v, then the RV of w to its processor, then its own RV
+  unfoldable pub interrupted : Instruction → Instruction → Bool
+  interrupted v w =
+      beforeBy places (numberOf v R) (numberOf w (RV (v .processor))) && beforeBy places (numberOf w (RV (v .processor))) (RV-own v)
+
   -- the two break the rule, by their marks m
   unfoldable pub pairBroken : ℕ → ℕ → ℕ → ℕ → Instruction → Instruction → Bool
   pairBroken rule m N P v w =
       cond (eqb rule 9) (hasMark m conflictMark && ownTurned v w)
       (cond (eqb rule 10) (hasMark m conflictMark && remoteTurned P v w)
       (cond (eqb rule 12) (hasMark m atomicMark && releaseSplit N P v)
-      (cond (eqb rule 14) (hasMark m bypassMark && bypassed v w) false)))
+      (cond (eqb rule 14) (hasMark m bypassMark && bypassed v w)
+      (cond (eqb rule 16) (hasMark m lockMark && interrupted v w) false))))
 
-  -- some two instructions break rule 9, 10, 12 or 14
+  -- some two instructions break rule 9, 10, 12, 14 or 16
   unfoldable pub pairsBroken : ℕ → Instructions → List (List ℕ) → ℕ → ℕ → Bool
   pairsBroken rule is marks N P =
       anyBelow (is .count) (λ i. anyBelow (is .count) (λ j. pairBroken rule (markAt marks i j) N P (instructionAt is i) (instructionAt is j)))
 
-  -- operation a, of instruction i, stands against a link of rule 1 to 8 or 13 to operation b
+  -- operation a, of instruction i, stands against a link of rule 1 to 8, 13 or 15 to operation b
   unfoldable pub standsAgainst : ℕ → List ℕ → List ℕ → List ℕ → List (List ℕ) → ℕ → ℕ → ℕ → Bool
   standsAgainst rule owners roles processors marks i a b =
       beforeBy places b a

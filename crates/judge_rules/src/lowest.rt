@@ -24,7 +24,7 @@ pub enum Lowest {
     Broken(u8),
 }
 
-// Whether a prefix breaks a rule from 1 to 14.
+// Whether a prefix breaks a rule from 1 to 16.
 fn rule_broken(
     rule: u8,
     bytes: &[u8],
@@ -33,7 +33,7 @@ fn rule_broken(
     marks: &[[u16; MOST_INSTRUCTIONS]; MOST_INSTRUCTIONS],
     places: &[u8; Position::LIMIT],
 ) -> bool
-    requires { ⌜ (1 ≤ rule) × (rule ≤ 14) × (x .instructions .count ≤ 40) × (x .lines .count ≤ 8) × (x .processors ≤ 8) × (t .count ≤ 128) ⌝ }
+    requires { ⌜ (1 ≤ rule) × (rule ≤ 16) × (x .instructions .count ≤ 40) × (x .lines .count ≤ 8) × (x .processors ≤ 8) × (t .count ≤ 128) ⌝ }
     requires { ⌜ Compiled x t (now marks) ⌝ }
     ensures { λ r. ⌜ ((n : ℕ) (xs : List ℕ) → Placed n xs (now (places .entry)) → r ≡ any (broken xs) (getD (rules (executionOf (now (bytes .entry)) x)) (rule - 1) [])) ⌝ }
 {
@@ -45,6 +45,7 @@ fn rule_broken(
         11 => sights_broken(bytes, x, places),
         12 => pairs_broken(rule, is, marks, n, x.processors, places),
         14 => pairs_broken(rule, is, marks, n, x.processors, places),
+        16 => pairs_broken(rule, is, marks, n, x.processors, places),
         _ => {
             let owners = t.owners;
             let roles = t.roles;

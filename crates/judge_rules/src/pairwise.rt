@@ -1,11 +1,11 @@
-// Rules 9, 10, 12 and 14: what two instructions, by their marks, ask of the places of their operations.
+// Rules 9, 10, 12, 14 and 16: what two instructions, by their marks, ask of the places of their operations.
 ghost use mathlib.Core.Path.{_≡_};
 ghost use Prim.Native.Nat.{_<_, _≤_};
 ghost use Rattle.base.specs.Below.{anyBelow};
 ghost use Rattle.model.specs.Rules.{RV-own};
 ghost use Rattle.record_decoded.specs.Decoded.{instructionAt};
 ghost use Rattle.relation_marks.specs.Marks.{markAt};
-ghost use Rattle.judge_rules.specs.Tests.{remoteBefore, ownTurned, remoteTurned, releaseSplitBy, releaseSplit, bypassed, pairBroken, pairsBroken};
+ghost use Rattle.judge_rules.specs.Tests.{remoteBefore, ownTurned, remoteTurned, releaseSplitBy, releaseSplit, bypassed, interrupted, pairBroken, pairsBroken};
 use record_decoded::kind::Role;
 use record_decoded::number::number_at;
 use record_decoded::position::Position;
@@ -17,6 +17,7 @@ use record_decoded::types::wide;
 use relation_marks::table::ATOMIC;
 use relation_marks::table::BYPASS;
 use relation_marks::table::CONFLICT;
+use relation_marks::table::LOCK;
 use relation_marks::table::both;
 use relation_marks::table::either;
 use relation_marks::table::has_mark;
@@ -154,6 +155,24 @@ fn bypassed(
     both(local, before(places, reads, own_no(is, v)))
 }
 
+// Rule 16: R of v, then the RV of w to its processor, then its own RV.
+fn interrupted(
+    places: &[u8; Position::LIMIT],
+    is: Instructions,
+    v: InstructionNo,
+    w: InstructionNo,
+) -> bool
+    requires { ⌜ (v .0 < 40) × (w .0 < 40) ⌝ }
+    ensures { λ r. ⌜ r ≡ interrupted (now (places .entry)) (instructionAt is (v .0)) (instructionAt is (w .0)) ⌝ }
+{
+    let processors = is.processors;
+    let at = v.0;
+    let processor = wide(processors[at]);
+    let between = number_at(is, w, Role::RV(processor));
+    let after = before(places, number_at(is, v, Role::R), between);
+    both(after, before(places, between, own_no(is, v)))
+}
+
 // Whether two instructions, by their marks, break the rule.
 fn pair_broken(
     rule: u8,
@@ -197,6 +216,13 @@ fn pair_broken(
                 false
             }
         }
+        16 => {
+            if has_mark(marks, LOCK) {
+                interrupted(places, is, v, w)
+            } else {
+                false
+            }
+        }
         _ => false,
     }
 }
@@ -234,7 +260,7 @@ fn pairs_broken_with(
     false
 }
 
-// Whether some two instructions break rule 9, 10, 12 or 14.
+// Whether some two instructions break rule 9, 10, 12, 14 or 16.
 pub fn pairs_broken(
     rule: u8,
     is: Instructions,

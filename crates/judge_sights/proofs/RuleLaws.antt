@@ -21,7 +21,7 @@ use Rattle.record_decoded.proofs.InitialBytes.{initial-is}
 use Rattle.relation_places.specs.Places.{placed, Placed}
 use Rattle.relation_places.proofs.PlaceLaws.{before-placed, member-placed}
 use Rattle.judge_sights.specs.declared.Latest.{Latest}
-use Rattle.judge_sights.specs.Sights.{dataByte, writesTo, sameProcessor, readNo, localNo, remoteNo, mayGive, visibleBy, makesLocal, localBy, laterBy, latestWith, latestBy, readBy, readAt, sightBroken, loadBroken}
+use Rattle.judge_sights.specs.Sights.{seenByte, wroteByte, writesTo, sameProcessor, readNo, localNo, remoteNo, mayGive, visibleBy, makesLocal, localBy, laterBy, latestWith, latestBy, readBy, readAt, sightBroken, loadBroken}
 use Rattle.judge_sights.proofs.LatestLaws.{latest-nothing, latest-more}
 
 -- The stores to a byte, by their numbers
@@ -40,7 +40,7 @@ module _ (is : Instructions) (load address : ℕ) where
     own = sameProcessor is load w;
     lv = localNo is w;
     rv = remoteNo is load w;
-    wrote = dataByte is w (address - instructionAt is w .address);
+    wrote = wroteByte is w (address - instructionAt is w .address);
   }
 
   writers : List ℕ → List Writer
@@ -48,7 +48,7 @@ module _ (is : Instructions) (load address : ℕ) where
 
   -- the operations that may give the load its byte, and their bytes
   entries : Bool → List ℕ → List (ℕ × ℕ)
-  entries b ks = map (λ w. (visibleBy is load b w, dataByte is w (address - instructionAt is w .address))) (keep (mayGive is load address b) ks)
+  entries b ks = map (λ w. (visibleBy is load b w, wroteByte is w (address - instructionAt is w .address))) (keep (mayGive is load address b) ks)
 
   entries-local : (ks : List ℕ) → map (λ w. (w .lv, w .wrote)) (keep (λ w. w .own) (writers ks)) ≡ entries true ks
   unfolding writers entries writerAt mayGive visibleBy
@@ -61,7 +61,7 @@ module _ (is : Instructions) (load address : ℕ) where
   unfolding writers entries writerAt mayGive visibleBy
   entries-remote ks =
       map-map (λ w. (w .rv, w .wrote)) writerAt (keep (writesTo is address) ks)
-      ∙ ap (map (λ w. (remoteNo is load w, dataByte is w (address - instructionAt is w .address))))
+      ∙ ap (map (λ w. (remoteNo is load w, wroteByte is w (address - instructionAt is w .address))))
       (keep-same (writesTo is address) (λ w. writesTo is address w && true) (λ w. sym (and-true (writesTo is address w))) ks)
 
 module _ (bytes : List ℕ) (x : Execution) (load address : ℕ) where
@@ -70,13 +70,13 @@ module _ (bytes : List ℕ) (x : Execution) (load address : ℕ) where
   sight = sightOf (executionOf bytes x) (instructionAt (x .instructions) load) address
 
   sight-writers : sight .writers ≡ writers (x .instructions) load address (below (x .instructions .count))
-  unfolding sight sightOf executionOf instructionsOf stores writers writerAt writesTo sameProcessor localNo remoteNo dataByte
+  unfolding sight sightOf executionOf instructionsOf stores writers writerAt writesTo sameProcessor localNo remoteNo wroteByte
   sight-writers =
       ap (map (λ w. record {
         own = eqb (w .processor) (instructionAt (x .instructions) load .processor);
         lv = numberOf w LV;
         rv = numberOf w (RV (instructionAt (x .instructions) load .processor));
-        wrote = getD (w .bytes) (address - w .address) 0;
+        wrote = getD (w .wrote) (address - w .address) 0;
       }))
       (keep-keep (λ w. accesses w address) (λ w. isStore (w .kind)) (map (instructionAt (x .instructions)) (below (x .instructions .count)))
       ∙ keep-map (λ w. isStore (w .kind) && accesses w address) (instructionAt (x .instructions)) (below (x .instructions .count)))
@@ -84,7 +84,7 @@ module _ (bytes : List ℕ) (x : Execution) (load address : ℕ) where
         own = eqb (w .processor) (instructionAt (x .instructions) load .processor);
         lv = numberOf w LV;
         rv = numberOf w (RV (instructionAt (x .instructions) load .processor));
-        wrote = getD (w .bytes) (address - w .address) 0;
+        wrote = getD (w .wrote) (address - w .address) 0;
       }) (instructionAt (x .instructions)) (keep (writesTo (x .instructions) address) (below (x .instructions .count)))
 
   sight-reads : sight .reads ≡ readNo (x .instructions) load
@@ -96,10 +96,10 @@ module _ (bytes : List ℕ) (x : Execution) (load address : ℕ) where
   sight-initial = initial-is bytes x address
 
 -- the byte seen
-sight-seen : (bytes : List ℕ) (x : Execution) (load k : ℕ) → sight bytes x load (instructionAt (x .instructions) load .address + k) .seen ≡ dataByte (x .instructions) load k
-unfolding sight sightOf dataByte
+sight-seen : (bytes : List ℕ) (x : Execution) (load k : ℕ) → sight bytes x load (instructionAt (x .instructions) load .address + k) .seen ≡ seenByte (x .instructions) load k
+unfolding sight sightOf seenByte
 sight-seen bytes x load k =
-    ap (λ (j : ℕ). getD (instructionAt (x .instructions) load .bytes) j 0)
+    ap (λ (j : ℕ). getD (instructionAt (x .instructions) load .seen) j 0)
     (let z : instructionAt (x .instructions) load .address + k - instructionAt (x .instructions) load .address ≡ k = omega arith in z)
 
 -- The order and its places
@@ -112,7 +112,7 @@ module _ {n : ℕ} {xs places : List ℕ} (h : Placed n xs places) where
     next-within w l m = go (mayGive is load address b w) (ltb (placed places (visibleBy is load b w)) (placed places (readNo is load))) (leb (l .next) (placed places (visibleBy is load b w))) refl
       where
         later : Latest
-        later = record { next = placed places (visibleBy is load b w) + 1; value = dataByte is w (address - instructionAt is w .address) }
+        later = record { next = placed places (visibleBy is load b w) + 1; value = wroteByte is w (address - instructionAt is w .address) }
 
         go : (g s t : Bool) → ltb (placed places (visibleBy is load b w)) (placed places (readNo is load)) ≡ s
             → cond (g && (s && t)) later l .next ≤ placed places (readNo is load)
@@ -128,7 +128,7 @@ module _ {n : ℕ} {xs places : List ℕ} (h : Placed n xs places) where
     latest-in w ks l m = go (mayGive is load address b w)
       where
         entry : ℕ → ℕ × ℕ
-        entry w = (visibleBy is load b w, dataByte is w (address - instructionAt is w .address))
+        entry w = (visibleBy is load b w, wroteByte is w (address - instructionAt is w .address))
 
         rest : List ℕ
         rest = keep (mayGive is load address b) ks
@@ -137,7 +137,7 @@ module _ {n : ℕ} {xs places : List ℕ} (h : Placed n xs places) where
         test = ltb (placed places (visibleBy is load b w)) (placed places (readNo is load)) && leb (l .next) (placed places (visibleBy is load b w))
 
         later : Latest
-        later = record { next = placed places (visibleBy is load b w) + 1; value = dataByte is w (address - instructionAt is w .address) }
+        later = record { next = placed places (visibleBy is load b w) + 1; value = wroteByte is w (address - instructionAt is w .address) }
 
         given : (t : Bool)
             → cond t (latest (map entry rest) (readNo is load) (later .value) (drop (later .next) xs)) (latest (map entry rest) (readNo is load) (l .value) (drop (l .next) xs))
@@ -149,7 +149,7 @@ module _ {n : ℕ} {xs places : List ℕ} (h : Placed n xs places) where
             → latest (map entry (cond g (w ∷ rest) rest)) (readNo is load) (l .value) (drop (l .next) xs)
             ≡ latest (map entry rest) (readNo is load) (cond (g && test) later l .value) (drop (cond (g && test) later l .next) xs)
         go true =
-            latest-more h (map entry rest) (readNo is load) (visibleBy is load b w) (dataByte is w (address - instructionAt is w .address)) (l .value) (l .next) m
+            latest-more h (map entry rest) (readNo is load) (visibleBy is load b w) (wroteByte is w (address - instructionAt is w .address)) (l .value) (l .next) m
             ∙ given test
         go false = refl
 

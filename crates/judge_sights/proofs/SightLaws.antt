@@ -1,48 +1,73 @@
 -- What the tests of one byte of a load come to, case by case.
 use Prim.Native.Nat.{ℕ, _+_, _-_, _*_, _≤_, _<_}
 use native.Mathlib.Omega.{arith}
-use mathlib.Core.Path.{_≡_, sym, _∙_}
-use mathlib.Core.Bool.{Bool, true, false, not, _||_, and-false}
-use mathlib.Core.List.{List}
-use lib.ListN.{getD, take, drop, length-take, List·getD-eq-default}
+use mathlib.Core.Path.{_≡_, sym, ap, ap₂, _∙_}
+use mathlib.Core.Bool.{Bool, true, false, not, cond, _||_, and-false}
+use mathlib.Core.List.{List, []}
+use lib.ListN.{getD, take, drop, length-take, length-drop, List·getD-eq-default}
 use lib.Seq.{getD-take, getD-drop}
 use lib.Dec.{eqb, leb, ltb}
 use borrow.Author.Tests.{lt-ltb, le-ltb, le-leb, lt-leb, leb-true}
 use Rattle.base.specs.Below.{anyBelow}
 use Rattle.base.proofs.Bools.{and-parts}
 use Rattle.model.specs.Execution.{Kind, kindOf, isLoad, isStore}
+use Rattle.model.specs.Questions.{seenOf, writtenFrom, wroteOf}
 use Rattle.model.specs.Rules.{accesses}
 use Rattle.record_decoded.specs.declared.types.Instructions.{Instructions}
 use Rattle.record_decoded.specs.declared.types.Execution.{Execution}
-use Rattle.record_decoded.specs.Decoded.{eight, initialOf, instructionAt}
+use Rattle.record_decoded.specs.Decoded.{dataOf, initialOf, instructionAt}
 use Rattle.relation_places.specs.Places.{placed}
 use Rattle.judge_sights.specs.declared.Latest.{Latest}
-use Rattle.judge_sights.specs.Sights.{dataByte, writesTo, sameProcessor, readNo, localNo, remoteNo, makesLocal, mayGive, visibleBy, laterBy, latestWith, readBy, readAt, sightBroken, loadBroken}
+use Rattle.judge_sights.specs.Sights.{seenByte, wroteByte, dataByte, writesTo, sameProcessor, readNo, localNo, remoteNo, makesLocal, mayGive, visibleBy, laterBy, latestWith, readBy, readAt, sightBroken, loadBroken}
 
--- a byte past an instruction's size, past the eight that the arrays hold, and one that is there
-module _ (is : Instructions) (i k : ℕ) where
-  pub byte-past : getD (is .sizes) i 0 ≤ k → 0 ≡ dataByte is i k
-  unfolding dataByte instructionAt
-  byte-past h =
-      sym (List·getD-eq-default (take (getD (is .sizes) i 0) (eight (is .bytes) i)) 0 {n = k}
-      (omega (arith, length-take (getD (is .sizes) i 0) (eight (is .bytes) i))))
+-- a byte past an instruction's size, past the sixteen that the arrays hold, and one that is there
+module _ (is : Instructions) (i from k : ℕ) where
+  abbrev rest : List ℕ
+  rest = drop from (dataOf (is .bytes) i)
 
-  pub byte-ninth : 8 ≤ k → 0 ≡ dataByte is i k
-  unfolding dataByte instructionAt eight
-  byte-ninth h =
-      sym (List·getD-eq-default (take (getD (is .sizes) i 0) (take 8 (drop (8 * i) (is .bytes)))) 0 {n = k}
+  pub byte-past : getD (is .sizes) i 0 ≤ k → 0 ≡ dataByte is i from k
+  unfolding dataByte
+  byte-past h = sym (List·getD-eq-default (take (getD (is .sizes) i 0) rest) 0 {n = k} (omega (arith, length-take (getD (is .sizes) i 0) rest)))
+
+  pub byte-last : from ≤ 16 → 16 - from ≤ k → 0 ≡ dataByte is i from k
+  unfolding dataByte dataOf
+  byte-last l h =
+      sym (List·getD-eq-default (take (getD (is .sizes) i 0) rest) 0 {n = k}
       (omega (
         arith,
-        length-take (getD (is .sizes) i 0) (take 8 (drop (8 * i) (is .bytes))),
-        length-take 8 (drop (8 * i) (is .bytes)),
+        length-take (getD (is .sizes) i 0) rest,
+        length-drop from (dataOf (is .bytes) i),
+        length-take 16 (drop (16 * i) (is .bytes)),
       )))
 
-  pub byte-there : k < getD (is .sizes) i 0 → k < 8 → getD (is .bytes) (8 * i + k) 0 ≡ dataByte is i k
-  unfolding dataByte instructionAt eight
-  byte-there h h8 =
-      sym (getD-take (getD (is .sizes) i 0) (take 8 (drop (8 * i) (is .bytes))) k 0 h
-      ∙ getD-take 8 (drop (8 * i) (is .bytes)) k 0 h8
-      ∙ getD-drop (8 * i) (is .bytes) k 0)
+  pub byte-there : k < getD (is .sizes) i 0 → from + k < 16 → getD (is .bytes) (16 * i + from + k) 0 ≡ dataByte is i from k
+  unfolding dataByte dataOf
+  byte-there h less =
+      let place : 16 * i + (from + k) ≡ 16 * i + from + k = omega arith in
+      sym (getD-take (getD (is .sizes) i 0) rest k 0 h
+      ∙ getD-drop from (dataOf (is .bytes) i) k 0
+      ∙ getD-take 16 (drop (16 * i) (is .bytes)) (from + k) 0 less
+      ∙ getD-drop (16 * i) (is .bytes) (from + k) 0
+      ∙ ap (λ (n : ℕ). getD (is .bytes) n 0) place)
+
+-- what an instruction saw and what it wrote
+module _ (is : Instructions) (i k : ℕ) (kind : Kind) (k-is : kind ≡ kindOf (getD (is .kinds) i 0)) where
+  pub seen-none : isLoad kind ≡ false → 0 ≡ seenByte is i k
+  unfolding seenByte instructionAt seenOf
+  seen-none h = rw (← k-is, h)
+
+  pub seen-there : isLoad kind ≡ true → dataByte is i 0 k ≡ seenByte is i k
+  unfolding seenByte instructionAt seenOf dataByte
+  seen-there h = rw (← k-is, h)
+
+  pub wrote-none : isStore kind ≡ false → 0 ≡ wroteByte is i k
+  unfolding wroteByte instructionAt wroteOf
+  wrote-none h = rw (← k-is, h)
+
+  pub wrote-there : isStore kind ≡ true → (from : ℕ) → from ≡ writtenFrom kind → dataByte is i from k ≡ wroteByte is i k
+  unfolding wroteByte instructionAt wroteOf dataByte
+  wrote-there h from f =
+      sym (ap₂ (λ (b : Bool) (n : ℕ). getD (cond b (take (getD (is .sizes) i 0) (drop n (dataOf (is .bytes) i))) []) k 0) (ap isStore (sym k-is) ∙ h) (sym (f ∙ ap writtenFrom k-is)))
 
 -- whether an instruction is a store to a byte
 module _ (is : Instructions) (w address : ℕ) (kind : Kind) (k-is : kind ≡ kindOf (getD (is .kinds) w 0)) where
@@ -75,7 +100,7 @@ module _ (is : Instructions) (places : List ℕ) (load address : ℕ) (local : B
     latest-before h = rw (← p-is, ← r-is, lt-leb (latest .next) p h, and-false (ltb p r), and-false (mayGive is load address local w))
 
     pub latest-given : mayGive is load address local w ≡ true → p < r → latest .next ≤ p
-        → (v from : ℕ) → from ≡ getD (is .addresses) w 0 → v ≡ dataByte is w (address - from)
+        → (v from : ℕ) → from ≡ getD (is .addresses) w 0 → v ≡ wroteByte is w (address - from)
         → record { next = p + 1; value = v } ≡ latestWith is places load address local w latest
     unfolding latestWith laterBy instructionAt
     latest-given h l m v from f e = rw (← p-is, ← r-is, h, lt-ltb p r l, le-leb (latest .next) p m, ← f, ← e)
@@ -117,7 +142,7 @@ module _ (bytes : List ℕ) (x : Execution) (places : List ℕ) (load k p : ℕ)
   sight-absent h = rw (← p-is, le-ltb p 255 h)
 
   pub sight-is : p < 255 → (from initial given seen : ℕ) → from ≡ getD (x .instructions .addresses) load 0
-      → initial ≡ initialOf bytes (x .lines .count) (from + k) → given ≡ readBy (x .instructions) places load (from + k) initial → seen ≡ dataByte (x .instructions) load k
+      → initial ≡ initialOf bytes (x .lines .count) (from + k) → given ≡ readBy (x .instructions) places load (from + k) initial → seen ≡ seenByte (x .instructions) load k
       → not (eqb given seen) ≡ sightBroken bytes x places load k
   unfolding sightBroken readAt instructionAt
   sight-is h from initial given seen f i g s = rw (← p-is, lt-ltb p 255 h, ← f, ← i, ← g, ← s)

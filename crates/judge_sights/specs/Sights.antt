@@ -2,7 +2,7 @@
 use Prim.Native.Nat.{ℕ, _+_, _-_}
 use mathlib.Core.Bool.{Bool, not, cond, _&&_, _||_}
 use mathlib.Core.List.{List}
-use lib.ListN.{getD}
+use lib.ListN.{getD, take, drop}
 use lib.Dec.{eqb, leb, ltb}
 use Rattle.base.specs.Below.{anyBelow}
 use Rattle.base.specs.Fold.{fold}
@@ -10,14 +10,21 @@ use Rattle.model.specs.Execution.{isLoad, isStore, R, LV, RV, numberOf}
 use Rattle.model.specs.Rules.{accesses}
 use Rattle.record_decoded.specs.declared.types.Instructions.{Instructions}
 use Rattle.record_decoded.specs.declared.types.Execution.{Execution}
-use Rattle.record_decoded.specs.Decoded.{initialOf, instructionAt}
+use Rattle.record_decoded.specs.Decoded.{dataOf, initialOf, instructionAt}
 use Rattle.relation_places.specs.Places.{placed}
 use Rattle.judge_sights.specs.declared.Latest.{Latest}
 
 module _ (is : Instructions) where
-  -- byte k of what an instruction saw or wrote
-  unfoldable pub dataByte : ℕ → ℕ → ℕ
-  dataByte i k = getD (instructionAt is i .bytes) k 0
+  -- byte k of what an instruction saw, and of what it wrote
+  unfoldable pub seenByte : ℕ → ℕ → ℕ
+  seenByte i k = getD (instructionAt is i .seen) k 0
+
+  unfoldable pub wroteByte : ℕ → ℕ → ℕ
+  wroteByte i k = getD (instructionAt is i .wrote) k 0
+
+  -- byte k of an instruction's size from a place of its data bytes on
+  unfoldable pub dataByte : ℕ → ℕ → ℕ → ℕ
+  dataByte i from k = getD (take (getD (is .sizes) i 0) (drop from (dataOf (is .bytes) i))) k 0
 
   -- instruction w is a store to the byte at an address
   unfoldable pub writesTo : ℕ → ℕ → Bool
@@ -65,7 +72,7 @@ module _ (is : Instructions) (places : List ℕ) (load address : ℕ) where
   unfoldable pub latestWith : Bool → ℕ → Latest → Latest
   latestWith local w latest =
       cond (mayGive is load address local w && laterBy (placed places (visibleBy is load local w)) (latest .next))
-      (record { next = placed places (visibleBy is load local w) + 1; value = dataByte is w (address - instructionAt is w .address) })
+      (record { next = placed places (visibleBy is load local w) + 1; value = wroteByte is w (address - instructionAt is w .address) })
       latest
 
   -- the byte of the latest before R of all stores
@@ -85,7 +92,7 @@ module _ (bytes : List ℕ) (x : Execution) (places : List ℕ) (load : ℕ) whe
   unfoldable pub sightBroken : ℕ → Bool
   sightBroken k =
       ltb (placed places (readNo (x .instructions) load)) 255
-      && not (eqb (readAt (instructionAt (x .instructions) load .address + k)) (dataByte (x .instructions) load k))
+      && not (eqb (readAt (instructionAt (x .instructions) load .address + k)) (seenByte (x .instructions) load k))
 
   -- some byte is another
   unfoldable pub loadBroken : Bool

@@ -7,12 +7,13 @@ ghost use Rattle.base.specs.Lists.{any};
 ghost use Rattle.model.specs.Rules.{rule11, broken};
 ghost use Rattle.record_decoded.specs.Decoded.{executionOf};
 ghost use Rattle.relation_places.specs.Places.{Placed};
-ghost use Rattle.judge_sights.specs.Sights.{dataByte, writesTo, sameProcessor, readNo, localNo, remoteNo, mayGive, visibleBy, makesLocal, localBy, latestWith, latestBy, readBy, sightBroken, loadBroken};
+ghost use Rattle.judge_sights.specs.Sights.{seenByte, wroteByte, dataByte, writesTo, sameProcessor, readNo, localNo, remoteNo, mayGive, visibleBy, makesLocal, localBy, latestWith, latestBy, readBy, sightBroken, loadBroken};
 use record_decoded::initial::initial_byte;
 use record_decoded::kind::Role;
 use record_decoded::kind::is_load;
 use record_decoded::kind::is_store;
 use record_decoded::kind::kind_of;
+use record_decoded::kind::written_from;
 use record_decoded::number::number_at;
 use record_decoded::position::Position;
 use record_decoded::types::DATA_STRIDE;
@@ -31,10 +32,10 @@ struct Latest {
     value: u8,
 }
 
-// Byte k of what instruction i saw or wrote.
-fn data_byte(is: Instructions, i: InstructionNo, k: usize) -> u8
-    requires { ⌜ i .0 < 40 ⌝ }
-    ensures { λ r. ⌜ r ≡ dataByte is (i .0) k ⌝ }
+// Byte k of instruction i's size, from a place of its data bytes on.
+fn data_byte(is: Instructions, i: InstructionNo, from: usize, k: usize) -> u8
+    requires { ⌜ (i .0 < 40) × (from ≤ 8) ⌝ }
+    ensures { λ r. ⌜ r ≡ dataByte is (i .0) from k ⌝ }
 {
     let sizes = is.sizes;
     let at = i.0;
@@ -42,11 +43,40 @@ fn data_byte(is: Instructions, i: InstructionNo, k: usize) -> u8
     if size <= k {
         return 0;
     }
-    if DATA_STRIDE <= k {
+    if DATA_STRIDE - from <= k {
         return 0;
     }
     let bytes = is.bytes;
-    bytes[DATA_STRIDE * at + k]
+    bytes[DATA_STRIDE * at + from + k]
+}
+
+// Byte k of what instruction i saw.
+fn seen_byte(is: Instructions, i: InstructionNo, k: usize) -> u8
+    requires { ⌜ i .0 < 40 ⌝ }
+    ensures { λ r. ⌜ r ≡ seenByte is (i .0) k ⌝ }
+{
+    let kinds = is.kinds;
+    let at = i.0;
+    if is_load(kind_of(kinds[at])) {
+        data_byte(is, i, 0, k)
+    } else {
+        0
+    }
+}
+
+// Byte k of what instruction i wrote.
+fn wrote_byte(is: Instructions, i: InstructionNo, k: usize) -> u8
+    requires { ⌜ i .0 < 40 ⌝ }
+    ensures { λ r. ⌜ r ≡ wroteByte is (i .0) k ⌝ }
+{
+    let kinds = is.kinds;
+    let at = i.0;
+    let kind = kind_of(kinds[at]);
+    if is_store(kind) {
+        data_byte(is, i, written_from(kind), k)
+    } else {
+        0
+    }
 }
 
 // The first address that instruction i accesses.
@@ -224,7 +254,7 @@ fn latest_with(
         return latest;
     }
     let k = address - address_of(is, w);
-    let value = data_byte(is, w, k);
+    let value = wrote_byte(is, w, k);
     let next = place + 1;
     Latest { next, value }
 }
@@ -286,7 +316,7 @@ fn sight_broken(
     let address = from + k;
     let initial = initial_byte(bytes, lines.count, address);
     let given = byte_read(is, places, load, address, initial);
-    let seen = data_byte(is, load, k);
+    let seen = seen_byte(is, load, k);
     given != seen
 }
 

@@ -4,17 +4,17 @@ use native.Mathlib.Omega.{arith}
 use mathlib.Core.Path.{_≡_, refl, sym, ap, _∙_, subst}
 use mathlib.Core.Bool.{Bool, true, false, cond, _&&_}
 use mathlib.Core.List.{List, [], _∷_, _++_}
-use lib.ListN.{length, getD, take, drop, length-append, length-drop}
+use lib.ListN.{length, getD, take, drop, length-append, length-map, List·getD-append}
 use lib.Seq.{length-take-le}
 use lib.Dec.{leb}
 use borrow.Author.Tests.{leb-true, ltb-true}
 use Rattle.base.specs.Lists.{all}
 use Rattle.base.proofs.Bools.{split, and-parts}
 use Rattle.base.proofs.Lists.{member-in, all-member}
-use Rattle.model.specs.Execution.{Kind, kindOf, isFence, Instruction, Execution, roles, operationCount, operations, Line}
+use Rattle.model.specs.Execution.{Kind, kindOf, isFence, Attribute, Instruction, Execution, roles, operationCount, operations, Line}
 use Rattle.model.specs.Accepted.{Consecutive, Sound, Each, Rises, Accepted}
 use Rattle.model.specs.Calls.{says, answerOf, readAll}
-use Rattle.model.specs.Questions.{Found, no-to, found, Reader, next, item, byte, ask, many, question2, question3, question5, question7, question8, question11, question12, question13, instructionOf, readLine, readLines, readInstruction, readProgram, readPrograms, readInstructions, readPair, readPairs, question15, readRecord}
+use Rattle.model.specs.Questions.{Found, no-to, found, Reader, next, item, byte, ask, many, question2, question3, question5, question7, question8, question26, question11, question12, question13, moreLength, lineAttributes, instructionOf, readLine, readLines, readInstruction, readProgram, readPrograms, readInstructions, readPair, readPairs, question15, readRecord}
 
 -- Steps of a walk that found something
 
@@ -93,27 +93,35 @@ size-small k size q = leb-true size 8 (split (isFence k)
     (λ h. all-member (λ n. leb n 8) (member-in (0 ∷ []) size (rw h at q)) refl)
     (λ h. all-member (λ n. leb n 8) (member-in (1 ∷ 2 ∷ 4 ∷ 8 ∷ []) size (rw h at q)) refl))
 
-abbrev Read : ℕ → ℕ → List Instruction → Type 0
-Read processors lines is = Consecutive processors 0 0 is × Each (Sound processors lines) is
+-- question 26 was answered 'yes'
+abbrev Passed26 : List Attribute → Instruction → Type 0
+Passed26 lines i = question26 lines (i .kind) (i .address) ≡ true
 
-module _ (processors lines : ℕ) where
+abbrev Read : ℕ → List Attribute → List Instruction → Type 0
+Read processors lines is = Consecutive processors 0 0 is × Each (Sound processors (length lines)) is × Each (Passed26 lines) is
+
+module _ (processors : ℕ) (lines : List Attribute) where
   module _ (p : ℕ) (own : p < processors) where
-    sound : (done : List Instruction) (x : List ℕ) → length x ≡ 11 → question7 (kindOf (getD x 0 0)) (getD x 2 0) ≡ true
-        → question8 lines (kindOf (getD x 0 0)) (getD x 2 0) (getD x 1 0) ≡ true → Sound processors lines (instructionOf processors p done x)
+    sound : (done : List Instruction) (x : List ℕ) → question7 (kindOf (getD x 0 0)) (getD x 2 0) ≡ true
+        → question8 (length lines) (kindOf (getD x 0 0)) (getD x 2 0) (getD x 1 0) ≡ true → Sound processors (length lines) (instructionOf processors p done x)
     unfolding instructionOf
-    sound done x long seven eight = record {
+    sound done x seven eight = record {
       own = own;
       size-passed = seven;
       address-passed = eight;
-      bytes-length = length-take-le (getD x 2 0) (drop 3 x) (omega (arith, length-drop 3 x, size-small (kindOf (getD x 0 0)) (getD x 2 0) seven));
     }
 
-    more : (done : List Instruction) (x : List ℕ) (i : Instruction) → Read processors lines done → instructionOf processors p done x ≡ i
-        → Sound processors lines (instructionOf processors p done x) → Read processors lines (done ++ (i ∷ []))
+    passed26 : (done : List Instruction) (x : List ℕ) → question26 lines (kindOf (getD x 0 0)) (getD x 1 0) ≡ true → Passed26 lines (instructionOf processors p done x)
     unfolding instructionOf
-    more done x i inv e s =
+    passed26 done x h = h
+
+    more : (done : List Instruction) (x : List ℕ) (i : Instruction) → Read processors lines done → instructionOf processors p done x ≡ i
+        → Sound processors (length lines) (instructionOf processors p done x) → Passed26 lines (instructionOf processors p done x)
+        → Read processors lines (done ++ (i ∷ []))
+    unfolding instructionOf
+    more done x i inv e s w =
         subst (λ (j : Instruction). Read processors lines (done ++ (j ∷ []))) e
-        (consecutive-more processors 0 0 done _ (inv .0) (omega arith) (omega arith), each-more (Sound processors lines) done _ (inv .1) s)
+        (consecutive-more processors 0 0 done _ (inv .0) (omega arith) (omega arith), each-more (Sound processors (length lines)) done _ (inv .1) s, each-more (Passed26 lines) done _ (inv .2) w)
 
     instruction-keeps : (done : List Instruction) (bytes : List ℕ) (i : Instruction) (r : List ℕ)
         → Read processors lines done → readInstruction processors lines p done bytes ≡ found i r → Read processors lines (done ++ (i ∷ []))
@@ -122,12 +130,20 @@ module _ (processors lines : ℕ) where
         step (item 11 bytes) _ i r h (λ x b1 e1 h1.
         step (ask 6 _ b1) _ i r h1 (λ u2 b2 e2 h2.
         step (ask 7 _ b2) _ i r h2 (λ u3 b3 e3 h3.
-        step (ask 8 _ b3) _ i r h3 (λ u4 b4 e4 h4.
-        step (ask 9 _ b4) _ i r h4 (λ u5 b5 e5 h5.
-        more done x i inv (cc)
-        (sound done x (item-length 11 bytes x b1 e1)
-        (asked 7 (question7 (kindOf (getD x 0 0)) (getD x 2 0)) b2 u3 b3 e3)
-        (asked 8 (question8 lines (kindOf (getD x 0 0)) (getD x 2 0) (getD x 1 0)) b3 u4 b4 e4)))))))
+        step (item (moreLength (kindOf (getD x 0 0))) b3) _ i r h3 (λ y b4 e4 h4.
+        step (ask 8 _ b4) _ i r h4 (λ u5 b5 e5 h5.
+        step (ask 26 _ b5) _ i r h5 (λ u6 b6 e6 h6.
+        step (ask 9 _ b6) _ i r h6 (λ u7 b7 e7 h7.
+        let long = item-length 11 bytes x b1 e1 in
+        let byte0 = List·getD-append x y 0 0 (omega arith) in
+        let byte1 = List·getD-append x y 0 1 (omega arith) in
+        let byte2 = List·getD-append x y 0 2 (omega arith) in
+        more done (x ++ y) i inv (cc)
+        (sound done (x ++ y)
+        (rw (byte0, byte2) (asked 7 (question7 (kindOf (getD x 0 0)) (getD x 2 0)) b2 u3 b3 e3))
+        (rw (byte0, byte1, byte2) (asked 8 (question8 (length lines) (kindOf (getD x 0 0)) (getD x 2 0) (getD x 1 0)) b4 u5 b5 e5)))
+        (passed26 done (x ++ y)
+        (rw (byte0, byte1) (asked 26 (question26 lines (kindOf (getD x 0 0)) (getD x 1 0)) b5 u6 b6 e6))))))))))
 
     program-keeps : (done : List Instruction) (bytes : List ℕ) (out : List Instruction) (r : List ℕ)
         → Read processors lines done → readProgram processors lines p done bytes ≡ found out r → Read processors lines out × (length out ≤ 40)
@@ -194,14 +210,14 @@ accepted bytes e rest h =
     step (byte bytes) _ e rest h (λ p b1 e1 h1.
     step (ask 2 _ b1) _ e rest h1 (λ u2 b2 e2 h2.
     step (readLines b2) _ e rest h2 (λ lines b3 e3 h3.
-    step (readInstructions p (length lines) b3) _ e rest h3 (λ is b4 e4 h4.
+    step (readInstructions p (lineAttributes lines) b3) _ e rest h3 (λ is b4 e4 h4.
     step (readPairs is b4) _ e rest h4 (λ pairs b5 e5 h5.
     step (question15 b5) _ e rest h5 (λ u6 b6 e6 h6.
-    step (readPrograms p (length lines) 0 p [] b3) _ is b4 e4 (λ js b7 e7 h7.
+    step (readPrograms p (lineAttributes lines) 0 p [] b3) _ is b4 e4 (λ js b7 e7 h7.
     step (ask 11 _ b7) _ is b4 h7 (λ u8 b8 e8 h8.
     let z : record { processors = p; lines = lines; instructions = is; pairs = pairs } ≡ e = cc in
     let w : js ≡ is = cc in
-    let (inv, short) = programs-keep p (length lines) 0 p [] b3 js b7 (omega arith) (tt, tt) (omega arith) e7 in
+    let (inv, short) = programs-keep p (lineAttributes lines) 0 p [] b3 js b7 (omega arith) (tt, tt, tt) (omega arith) e7 in
     let counted = lines-counted b2 lines b3 e3 in
     let (some, few) = and-parts (leb 1 p) (leb p 8) (asked 2 (leb 1 p && leb p 8) b1 u2 b2 e2) in
     subst Accepted z (record {
@@ -212,7 +228,8 @@ accepted bytes e rest h =
       operations-few = subst (λ (l : List Instruction). operationCount p l ≤ 128) w (leb-true (operationCount p js) 128 (asked 11 (leb (operationCount p js) 128) b7 u8 b8 e8));
       pairs-few = pairs-counted is b4 pairs b5 e5;
       consecutive = subst (Consecutive p 0 0) w (inv .0);
-      sound = subst (Each (Sound p (length lines))) w (inv .1);
+      sound = subst (λ (n : ℕ). Each (Sound p n) is) (length-map lines (λ l. l .attribute)) (subst (Each (Sound p (length (lineAttributes lines)))) w (inv .1));
+      semaphores-passed = subst (Each (Passed26 (lineAttributes lines))) w (inv .2);
       rising = pairs-rise is b4 pairs b5 e5;
     })))))))))
 

@@ -1,12 +1,85 @@
--- What one operation more settles: what was settled, and 'x before b' for each b that does not stand; nothing else.
+-- What a prefix settles: 'a before b' as an order of what stands. What one operation more settles: what was settled, and 'x before b' for each b that does not stand; nothing else.
 use Prim.Native.Nat.{ℕ}
-use mathlib.Core.Path.{_≡_, refl}
-use mathlib.Core.Bool.{Bool, true, false, not, _&&_, _||_, and-false, or-false}
+use mathlib.Core.Path.{_≡_, refl, sym, _∙_}
+use mathlib.Core.Bool.{Bool, true, false, not, _&&_, _||_, and-false, or-false, false≢true}
 use mathlib.Core.List.{List, [], _∷_, _++_}
 use lib.Dec.{eqb}
+use borrow.Author.Tests.{eqb-true}
 use Rattle.base.specs.Lists.{member}
+use Rattle.base.proofs.Bools.{clash, is-false}
 use Rattle.base.proofs.Lists.{member-append}
 use Rattle.model.specs.Rules.{before}
+
+-- 'a before b' where b does not stand
+pub before-absent : (xs : List ℕ) (a b : ℕ) → member xs b ≡ false → before xs a b ≡ member xs a
+unfolding before member
+before-absent [] a b h = refl
+before-absent (y ∷ ys) a b h = go (eqb y b) (before-absent ys a b) h
+  where
+    go : (p : Bool) → (member ys b ≡ false → before ys a b ≡ member ys a) → (p || member ys b) ≡ false
+        → (not p && (eqb y a || before ys a b)) ≡ (eqb y a || member ys a)
+    go true ih k = absurd (false≢true (sym k))
+    go false ih k = rw (ih k)
+
+-- what is before stands
+pub before-stands : (xs : List ℕ) (a b : ℕ) → before xs a b ≡ true → member xs a ≡ true
+unfolding before member
+before-stands [] a b h = h
+before-stands (y ∷ ys) a b h = go (eqb y b) (eqb y a) (before-stands ys a b) h
+  where
+    go : (p q : Bool) → (before ys a b ≡ true → member ys a ≡ true) → (not p && (q || before ys a b)) ≡ true → (q || member ys a) ≡ true
+    go true q f k = absurd (false≢true k)
+    go false true f k = refl
+    go false false f k = f k
+
+pub before-not : (xs : List ℕ) (a b : ℕ) → member xs a ≡ false → before xs a b ≡ false
+before-not xs a b h = is-false (before xs a b) (λ t. clash (before-stands xs a b t) h)
+
+-- nothing is before itself
+pub before-itself : (xs : List ℕ) (a : ℕ) → before xs a a ≡ false
+unfolding before
+before-itself [] a = refl
+before-itself (y ∷ ys) a = go (eqb y a) (before-itself ys a)
+  where
+    go : (p : Bool) → before ys a a ≡ false → (not p && (p || before ys a a)) ≡ false
+    go true h = refl
+    go false h = h
+
+-- a before b, and c not before b: a before c
+pub before-past : (xs : List ℕ) (a b c : ℕ) → before xs a b ≡ true → before xs c b ≡ false → before xs a c ≡ true
+unfolding before
+before-past [] a b c h k = h
+before-past (y ∷ ys) a b c h k = go (eqb y a) (eqb y b) (eqb y c) (before-past ys a b c) h k
+  where
+    go : (p q r : Bool) → (before ys a b ≡ true → before ys c b ≡ false → before ys a c ≡ true)
+        → (not q && (p || before ys a b)) ≡ true → (not q && (r || before ys c b)) ≡ false → (not r && (p || before ys a c)) ≡ true
+    go p true r ih h k = absurd (false≢true h)
+    go p false true ih h k = absurd (false≢true (sym k))
+    go true false false ih h k = refl
+    go false false false ih h k = ih h k
+
+-- b not before a, and b before c: a before c
+pub before-from : (xs : List ℕ) (a b c : ℕ) → before xs b a ≡ false → before xs b c ≡ true → before xs a c ≡ true
+before-from xs a b c h k = go (before xs a c) refl
+  where
+    go : (t : Bool) → before xs a c ≡ t → t ≡ true
+    go true e = refl
+    go false e = clash (before-past xs b c a k e) h
+
+-- a stands, and not before another b: b before a
+pub before-other : (xs : List ℕ) (a b : ℕ) → member xs a ≡ true → (a ≡ b → ⊥) → before xs a b ≡ false → before xs b a ≡ true
+unfolding before member
+before-other [] a b s n h = absurd (false≢true s)
+before-other (y ∷ ys) a b s n h = go (eqb y a) (eqb y b) refl refl (before-other ys a b) s h
+  where
+    go : (p q : Bool) → eqb y a ≡ p → eqb y b ≡ q → (member ys a ≡ true → (a ≡ b → ⊥) → before ys a b ≡ false → before ys b a ≡ true)
+        → (p || member ys a) ≡ true → (not q && (p || before ys a b)) ≡ false → (not p && (q || before ys b a)) ≡ true
+    go true true e f ih s h = absurd (n (sym (eqb-true y a e) ∙ eqb-true y b f))
+    go true false e f ih s h = absurd (false≢true (sym h))
+    go false true e f ih s h = refl
+    go false false e f ih s h = ih s n h
+
+-- One operation more
 
 -- the prefix with one operation more
 abbrev pub then : List ℕ → ℕ → List ℕ

@@ -1,14 +1,25 @@
--- A prefix of a consistent prefix is consistent.
+-- What a consistent prefix breaks: nothing. A prefix of a consistent prefix is consistent.
 use Prim.Native.Nat.{ℕ}
 use mathlib.Core.Path.{_≡_, refl, ap, subst}
 use mathlib.Core.Bool.{Bool, true, false, not, cond, _&&_, _||_, false≢true}
-use mathlib.Core.List.{List, [], _∷_, _++_, map, append-nil}
+use mathlib.Core.List.{List, [], _∷_, _++_, map, append-nil, List·Memᴰ}
 use lib.Dec.{eqb}
 use lib.Seq.{append-snoc}
+use borrow.Author.Tests.{not-true}
 use Rattle.base.specs.Lists.{any, keep, member}
-use Rattle.base.proofs.Lists.{member-append, any-same, any-weaken}
-use Rattle.model.specs.Rules.{before, Sight, Claim, must, _⇒_, never, sees, byteOf, latest, local, byteRead, broken, keeps}
+use Rattle.base.proofs.Lists.{member-append, any-same, any-weaken, any-fails}
+use Rattle.model.specs.Execution.{Execution}
+use Rattle.model.specs.Rules.{before, Sight, Claim, must, _⇒_, never, sees, byteOf, latest, local, byteRead, broken, rules, keeps, consistent}
 use Rattle.model.proofs.Before.{then, before-stays, before-kept-first, before-kept-second}
+
+module _ (e : Execution) (xs : List ℕ) (consists : consistent e xs ≡ true) {r : List Claim} (m : List·Memᴰ r (rules e)) where
+  -- a consistent prefix breaks no rule, and no claim of a rule
+  pub kept : any (broken xs) r ≡ false
+  unfolding consistent keeps
+  kept = any-fails (any (broken xs)) m (not-true (any (any (broken xs)) (rules e)) consists)
+
+  pub unbroken : {c : Claim} → List·Memᴰ c r → broken xs c ≡ false
+  unbroken k = any-fails (broken xs) k kept
 
 -- the byte that a load reads is settled once its R stands
 latest-kept : (ws : List (ℕ × ℕ)) (r d : ℕ) (xs : List ℕ) (x : ℕ) → member xs r ≡ true → latest ws r d (then xs x) ≡ latest ws r d xs

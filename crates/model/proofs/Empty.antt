@@ -9,8 +9,8 @@ use lib.Seq.{take-at, drop-at}
 use borrow.Author.Tests.{le-leb, lt-leb, ne-eqb}
 use Rattle.base.specs.Lists.{for, below, count, distinct, keep}
 use Rattle.base.specs.Lex.{lexLess}
-use Rattle.model.specs.Execution.{Line, Instruction, Execution, operationCount, operations}
-use Rattle.model.specs.Questions.{Found, found, next, item, byte, ask, many, question2, question3, question5, question11, question12, question15, lineLength, lineOf, readLine, readLines, readProgram, readPrograms, readInstructions, readPairs, readRecord}
+use Rattle.model.specs.Execution.{Attribute, Line, Instruction, Execution, operationCount, operations}
+use Rattle.model.specs.Questions.{Found, found, next, item, byte, ask, many, question2, question3, question5, question11, question12, question15, lineLength, lineOf, lineAttributes, readLine, readLines, readProgram, readPrograms, readInstructions, readPairs, readRecord}
 use Rattle.model.specs.Rules.{rules, keeps, consistent}
 use Rattle.model.specs.Search.{allowed, upToFull, extensions, prefixes, after, searchFrom}
 use Rattle.model.specs.Chains.{chainMarks}
@@ -46,7 +46,7 @@ lines-front (l ∷ ls) before rest (passes, h) =
 abbrev emptyPrograms : ℕ → List ℕ
 emptyPrograms p = for (replicate {A = List (List ℕ)} p []) (λ q. length q ∷ for q (λ i. i))
 
-programs-front : (processors lines p left : ℕ) (rest : List ℕ) → readPrograms processors lines p left [] (emptyPrograms left ++ rest) ≡ found [] rest
+programs-front : (processors : ℕ) (lines : List Attribute) (p left : ℕ) (rest : List ℕ) → readPrograms processors lines p left [] (emptyPrograms left ++ rest) ≡ found [] rest
 unfolding readPrograms readProgram next byte ask question5 many for
 programs-front processors lines p zero rest = refl
 programs-front processors lines p (suc left) rest = programs-front processors lines (suc p) left rest
@@ -59,7 +59,7 @@ lines-come ls rest three passes =
     ap (λ (b : Bool). next (ask 3 b (for ls (λ l. l) ++ rest)) (λ _. many (λ d. readLine) (length ls) [])) three
     ∙ lines-front ls [] rest passes
 
-instructions-come : (p lines : ℕ) (rest : List ℕ) → readInstructions p lines (emptyPrograms p ++ rest) ≡ found [] rest
+instructions-come : (p : ℕ) (lines : List Attribute) (rest : List ℕ) → readInstructions p lines (emptyPrograms p ++ rest) ≡ found [] rest
 unfolding readInstructions next ask question11 operationCount
 instructions-come p lines rest = rw (programs-front p lines 0 p rest)
 
@@ -75,7 +75,7 @@ module _ (p : ℕ) (ls : List (List ℕ)) (two : question2 p ≡ true) (three : 
   unfolding readRecord recordOf readPairs question12 question15 next ask byte many for
   reads =
       ap (λ (b : List ℕ). readRecord (length (replicate {A = List (List ℕ)} p []) ∷ length ls ∷ b)) (append-assoc (for ls (λ l. l)) (emptyPrograms p) (0 ∷ []))
-      ∙ rw (length-replicate {A = List (List ℕ)} p [], two, lines-come ls (emptyPrograms p ++ (0 ∷ [])) three passes, instructions-come p (length (map lineOf ls)) (0 ∷ []))
+      ∙ rw (length-replicate {A = List (List ℕ)} p [], two, lines-come ls (emptyPrograms p ++ (0 ∷ [])) three passes, instructions-come p (lineAttributes (map lineOf ls)) (0 ∷ []))
 
   accepts : readAll blankRecord ≡ says blankExecution
   accepts = found-says blankRecord blankExecution [] reads

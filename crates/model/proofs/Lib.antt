@@ -9,8 +9,11 @@ pub mod ProgramOrder
 pub mod Accepted
 pub mod Numbers
 pub mod Roles
+pub mod Ownership
+pub mod Accesses
 pub mod Uncacheable
 pub mod Unread
 pub mod Walked
 pub mod Empty
+pub mod Uninterrupted
 pub mod Quoted

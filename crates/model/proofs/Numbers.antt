@@ -2,7 +2,7 @@
 use Prim.Native.Nat.{ℕ, zero, suc, _+_, _-_, _≤_, _<_}
 use native.Mathlib.Omega.{arith}
 use mathlib.Core.Path.{_≡_, refl, sym, ap, _∙_}
-use mathlib.Core.Bool.{true, false, cond, false≢true}
+use mathlib.Core.Bool.{Bool, true, false, cond, false≢true}
 use mathlib.Core.List.{List, [], _∷_, _++_, append-nil, map, List·Memᴰ, List·Memᴰ·head, List·Memᴰ·tail, List·Memᴰ·not-nil, List·Memᴰ·append-cases, Memᴰ·of-map}
 use mathlib.Core.Logic.{⊎-elim}
 use lib.ListN.{length, getD, take, length-map, length-append, List·getD-append}
@@ -12,7 +12,7 @@ use borrow.Author.Tests.{ltb-true, ltb-false}
 use Rattle.base.specs.Lists.{any, for, below}
 use Rattle.base.proofs.Bools.{split}
 use Rattle.base.proofs.Lists.{length-count, getD-below, place-of}
-use Rattle.model.specs.Execution.{Kind, ld, ld-acq, st, st-rel, mf, kindRow, isStore, Instruction, Role, R, LV, F, RV, roles, operationCount, remotesAt, placeAmong, rolePlace, numberOf, Operation, operationsOf, hasRoleRV}
+use Rattle.model.specs.Execution.{Kind, ld, ld-acq, st, st-rel, mf, sem-acq, sem-rel, kindRow, isStore, isSemaphore, Instruction, Role, R, LV, F, RV, roles, operationCount, remotesAt, placeAmong, rolePlace, numberOf, Operation, operationsOf, hasRoleRV}
 use Rattle.model.specs.Accepted.{Consecutive}
 
 -- how many operations a kind gives, and the roles at their places
@@ -46,22 +46,59 @@ module _ (p : ℕ) (k : Kind) where
 
 -- the role at a place of a kind's list of roles has that place
 
-first-place : (k : Kind) → rolePlace k (getD (kindRow k .beforeRemotes) 0 F) ≡ 0
-unfolding placeAmong
-first-place ld = refl
-first-place ld-acq = refl
-first-place st = refl
-first-place st-rel = refl
-first-place mf = refl
+place-before-remotes : (k : Kind) (place : ℕ) → place < remotesAt k → rolePlace k (getD (kindRow k .beforeRemotes) place F) ≡ place
+unfolding placeAmong any remotesAt
+place-before-remotes ld zero l = refl
+place-before-remotes ld-acq zero l = refl
+place-before-remotes st zero l = refl
+place-before-remotes st-rel zero l = refl
+place-before-remotes mf zero l = refl
+place-before-remotes sem-acq zero l = refl
+place-before-remotes sem-rel zero l = refl
+place-before-remotes ld (suc place) l = absurd (omega arith)
+place-before-remotes ld-acq (suc place) l = absurd (omega arith)
+place-before-remotes st (suc place) l = absurd (omega arith)
+place-before-remotes st-rel (suc place) l = absurd (omega arith)
+place-before-remotes mf (suc place) l = absurd (omega arith)
+place-before-remotes sem-acq (suc zero) l = refl
+place-before-remotes sem-rel (suc zero) l = refl
+place-before-remotes sem-acq (suc (suc place)) l = absurd (omega arith)
+place-before-remotes sem-rel (suc (suc place)) l = absurd (omega arith)
 
--- before the RVs each kind gives one operation
-pub one-before-remotes : (k : Kind) → remotesAt k ≡ 1
+-- before the RVs each kind gives one operation, a semaphore two
+pub remotes-at : (k : Kind) → remotesAt k ≡ cond (isSemaphore k) 2 1
 unfolding remotesAt
-one-before-remotes ld = refl
-one-before-remotes ld-acq = refl
-one-before-remotes st = refl
-one-before-remotes st-rel = refl
-one-before-remotes mf = refl
+remotes-at ld = refl
+remotes-at ld-acq = refl
+remotes-at st = refl
+remotes-at st-rel = refl
+remotes-at mf = refl
+remotes-at sem-acq = refl
+remotes-at sem-rel = refl
+
+pub one-before-remotes : (k : Kind) → isSemaphore k ≡ false → remotesAt k ≡ 1
+one-before-remotes k h = remotes-at k ∙ ap (λ (b : Bool). cond b 2 1) h
+
+pub two-before-remotes : (k : Kind) → isSemaphore k ≡ true → remotesAt k ≡ 2
+two-before-remotes k h = remotes-at k ∙ ap (λ (b : Bool). cond b 2 1) h
+
+pub some-before-remotes : (k : Kind) → (1 ≤ remotesAt k) × (remotesAt k ≤ 2)
+some-before-remotes k = go (isSemaphore k) (remotes-at k)
+  where
+    go : (s : Bool) → remotesAt k ≡ cond s 2 1 → (1 ≤ remotesAt k) × (remotesAt k ≤ 2)
+    go true h = (omega arith, omega arith)
+    go false h = (omega arith, omega arith)
+
+-- where two come before the RVs, the second is LV
+pub second-role : (k : Kind) → 1 < remotesAt k → getD (kindRow k .beforeRemotes) 1 F ≡ LV
+unfolding remotesAt
+second-role ld l = absurd (omega arith)
+second-role ld-acq l = absurd (omega arith)
+second-role st l = absurd (omega arith)
+second-role st-rel l = absurd (omega arith)
+second-role mf l = absurd (omega arith)
+second-role sem-acq l = refl
+second-role sem-rel l = refl
 
 -- the places of R, of F and of LV, which is the last before the RVs
 pub R-place : (k : Kind) → rolePlace k R ≡ 0
@@ -71,6 +108,8 @@ R-place ld-acq = refl
 R-place st = refl
 R-place st-rel = refl
 R-place mf = refl
+R-place sem-acq = refl
+R-place sem-rel = refl
 
 pub F-place : (k : Kind) → rolePlace k F ≡ 0
 unfolding placeAmong any
@@ -79,6 +118,8 @@ F-place ld-acq = refl
 F-place st = refl
 F-place st-rel = refl
 F-place mf = refl
+F-place sem-acq = refl
+F-place sem-rel = refl
 
 pub LV-place : (k : Kind) → suc (rolePlace k LV) ≡ remotesAt k
 unfolding placeAmong any remotesAt
@@ -87,10 +128,8 @@ LV-place ld-acq = refl
 LV-place st = refl
 LV-place st-rel = refl
 LV-place mf = refl
-
-place-before-remotes : (k : Kind) (place : ℕ) → place < remotesAt k → rolePlace k (getD (kindRow k .beforeRemotes) place F) ≡ place
-place-before-remotes k zero l = first-place k
-place-before-remotes k (suc place) l = absurd (omega (arith, one-before-remotes k))
+LV-place sem-acq = refl
+LV-place sem-rel = refl
 
 module _ (p : ℕ) where
   pub role-place : (k : Kind) (place : ℕ) → place < length (roles p k) → rolePlace k (getD (roles p k) place F) ≡ place

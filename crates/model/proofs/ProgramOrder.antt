@@ -6,7 +6,7 @@ use mathlib.Core.List.{List, [], _∷_, List·Memᴰ, List·Memᴰ·head, List·
 use Rattle.base.specs.Lists.{all, member}
 use Rattle.base.proofs.Bools.{beq-same}
 use Rattle.base.proofs.Lists.{all-member}
-use Rattle.model.specs.Execution.{Kind, ld, ld-acq, st, st-rel, mf, isLoad, isStore, isAcquire, isRelease, isFence}
+use Rattle.model.specs.Execution.{Kind, ld, ld-acq, st, st-rel, mf, sem-acq, sem-rel, isLoad, isStore, isAcquire, isRelease, isFence}
 use Rattle.model.specs.ProgramOrder.{ruleMarks, marks}
 
 -- by earlier and later kind: A where the earlier acquires; L where the later releases, for an earlier load or store; F where either is a fence
@@ -21,7 +21,7 @@ byRule4 j k = isFence j || isFence k
 
 -- one test of the whole table
 abbrev pub kinds : List Kind
-kinds = ld ∷ ld-acq ∷ st ∷ st-rel ∷ mf ∷ []
+kinds = ld ∷ ld-acq ∷ st ∷ st-rel ∷ mf ∷ sem-acq ∷ sem-rel ∷ []
 
 pub listed : (k : Kind) → List·Memᴰ k kinds
 listed ld = List·Memᴰ·head refl
@@ -29,6 +29,8 @@ listed ld-acq = List·Memᴰ·tail (List·Memᴰ·head refl)
 listed st = List·Memᴰ·tail (List·Memᴰ·tail (List·Memᴰ·head refl))
 listed st-rel = List·Memᴰ·tail (List·Memᴰ·tail (List·Memᴰ·tail (List·Memᴰ·head refl)))
 listed mf = List·Memᴰ·tail (List·Memᴰ·tail (List·Memᴰ·tail (List·Memᴰ·tail (List·Memᴰ·head refl))))
+listed sem-acq = List·Memᴰ·tail (List·Memᴰ·tail (List·Memᴰ·tail (List·Memᴰ·tail (List·Memᴰ·tail (List·Memᴰ·head refl)))))
+listed sem-rel = List·Memᴰ·tail (List·Memᴰ·tail (List·Memᴰ·tail (List·Memᴰ·tail (List·Memᴰ·tail (List·Memᴰ·tail (List·Memᴰ·head refl))))))
 
 right : ℕ → (Kind → Kind → Bool) → Bool
 right rule by = all (λ j. all (λ k. Bool·beq (member (marks j k) rule) (by j k)) kinds) kinds

@@ -2,14 +2,14 @@
 use Prim.Native.Nat.{ℕ, _<_}
 use mathlib.Core.Path.{_≡_, refl}
 use mathlib.Core.Bool.{Bool, true, false, cond, _&&_, false≢true}
-use mathlib.Core.List.{[], map, List·Memᴰ, List·Memᴰ·head, List·Memᴰ·not-nil, List·Memᴰ·append-cases, Memᴰ·append-left, Memᴰ·append-right, Memᴰ·map, Memᴰ·of-map}
+use mathlib.Core.List.{[], map, List·Memᴰ, List·Memᴰ·head, List·Memᴰ·tail, List·Memᴰ·not-nil, List·Memᴰ·append-cases, Memᴰ·append-left, Memᴰ·append-right, Memᴰ·map, Memᴰ·of-map}
 use mathlib.Core.Logic.{⊎-elim}
 use lib.Dec.{ltb}
 use borrow.Author.Tests.{lt-ltb, ltb-true}
 use Rattle.base.specs.Lists.{all, below}
 use Rattle.base.proofs.Bools.{split, and-parts, and-both}
 use Rattle.base.proofs.Lists.{all-member, in-below, of-below}
-use Rattle.model.specs.Execution.{Kind, ld, ld-acq, st, st-rel, mf, kindRow, isLoad, isStore, isFence, Role, R, LV, F, RV, roles}
+use Rattle.model.specs.Execution.{Kind, ld, ld-acq, st, st-rel, mf, sem-acq, sem-rel, kindRow, isLoad, isStore, isFence, Role, R, LV, F, RV, roles}
 
 module _ (p : ℕ) where
   -- a kind has a role
@@ -27,6 +27,8 @@ module _ (p : ℕ) where
   roles-before-remotes st = refl
   roles-before-remotes st-rel = refl
   roles-before-remotes mf = refl
+  roles-before-remotes sem-acq = refl
+  roles-before-remotes sem-rel = refl
 
   remote-roles : (k : Kind) {r : Role} → List·Memᴰ r (cond (isStore k) (map RV (below p)) []) → hasRole k r ≡ true
   remote-roles k {r} m = split (isStore k) (λ t. of-remote t (rw t at m)) (λ f. absurd (List·Memᴰ·not-nil (rw f at m)))
@@ -65,6 +67,8 @@ module _ (p : ℕ) where
       go st h = absurd (false≢true h)
       go st-rel h = absurd (false≢true h)
       go mf h = absurd (false≢true h)
+      go sem-acq h = List·Memᴰ·head refl
+      go sem-rel h = List·Memᴰ·head refl
 
   pub LV-role : (k : Kind) → isStore k ≡ true → List·Memᴰ LV (roles p k)
   LV-role k h = before-remotes k (go k h)
@@ -75,6 +79,8 @@ module _ (p : ℕ) where
       go st h = List·Memᴰ·head refl
       go st-rel h = List·Memᴰ·head refl
       go mf h = absurd (false≢true h)
+      go sem-acq h = List·Memᴰ·tail (List·Memᴰ·head refl)
+      go sem-rel h = List·Memᴰ·tail (List·Memᴰ·head refl)
 
   pub RV-role : (k : Kind) (q : ℕ) → q < p → isStore k ≡ true → List·Memᴰ (RV q) (roles p k)
   unfolding roles
@@ -87,6 +93,8 @@ load-no-fence ld-acq h = refl
 load-no-fence st h = refl
 load-no-fence st-rel h = refl
 load-no-fence mf h = absurd (false≢true h)
+load-no-fence sem-acq h = refl
+load-no-fence sem-rel h = refl
 
 pub store-no-fence : (k : Kind) → isStore k ≡ true → isFence k ≡ false
 store-no-fence ld h = refl
@@ -94,3 +102,5 @@ store-no-fence ld-acq h = refl
 store-no-fence st h = refl
 store-no-fence st-rel h = refl
 store-no-fence mf h = absurd (false≢true h)
+store-no-fence sem-acq h = refl
+store-no-fence sem-rel h = refl

@@ -11,14 +11,14 @@ use borrow.Author.Tests.{eq-eqb, ne-eqb, eqb-true, lt-ltb, ltb-true}
 use Rattle.base.specs.Lists.{any, keep, when, for, count, below, member}
 use Rattle.base.proofs.Bools.{split, agree, and-parts, and-both}
 use Rattle.base.proofs.Lists.{any-witness, any-member, any-map, member-any, in-below, of-below}
-use Rattle.model.specs.Execution.{Attribute, WB, UC, WC, attributeNumber, attributeOf, attributes, isWB, isUC, sameDomain, Line, noLine, Instruction, Execution, Operation, isRelease, R, LV, numberOf, operations, allOperations, everyProcessor, stores, loads, lineAt, attributeAt, initialByte}
+use Rattle.model.specs.Execution.{Attribute, WB, UC, WC, attributeNumber, attributeOf, attributes, isWB, isUC, sameDomain, Line, noLine, Instruction, Execution, Operation, isRelease, R, LV, numberOf, operations, allOperations, everyProcessor, stores, loads, semaphores, lineAt, attributeAt, initialByte}
 use Rattle.model.specs.Questions.{question4, lineOf}
-use Rattle.model.specs.Rules.{isRorLV, earlier, paired, link8, inWB, inUC, inOneDomain, link13, Claim, never, sees, addresses, overlap, RV-own, linksOf, conflict, forConflicts, rule9, rule10, sightOf, rule11, remoteOf, rule12, rule14, rules}
+use Rattle.model.specs.Rules.{isRorLV, earlier, paired, link8, inWB, inUC, inOneDomain, link13, Claim, never, sees, addresses, overlap, RV-own, linksOf, conflict, forConflicts, rule9, rule10, sightOf, rule11, remoteOf, rule12, rule14, rule16, rules}
 use Rattle.model.specs.Calls.{judgeOrder, judgeCall, searchSaved, searchReply, searching, searchCall, tableMarks, tableReply, tabling, tableCall}
 use Rattle.model.specs.Claims.{AttributeNumbers, withoutDomain, lineWithoutDomain, oneDomain, oldLink13, oldRules, OneDomain, attributeByte, OldRecords}
 use Rattle.model.proofs.Asking.{after-says}
 use Rattle.model.proofs.Accepted.{read-found}
-use Rattle.model.proofs.Walked.{Begins, begins}
+use Rattle.model.proofs.Walked.{Begins, begins, attribute-place}
 
 -- Attributes and their numbers
 
@@ -155,10 +155,14 @@ module _ (e : Execution) where
   rule14-one = λ i. for (stores e) (λ w. for (loads e) (λ l.
       when (uc-one w i && (eqb (w .processor) (l .processor) && overlap w l)) (never (numberOf w LV) (numberOf l R) (RV-own w) ∷ [])))
 
-  -- rules 1 to 8 by computation
+  rule16-one : rule16 (oneDomain e) ≡ rule16 e
+  unfolding rule16 semaphores stores oneDomain
+  rule16-one = refl
+
+  -- rules 1 to 8 and 15 by computation
   rules-one : rules (oneDomain e) ≡ oldRules e
   unfolding rules oldRules linksOf allOperations link8 paired oneDomain
-  rules-one = cc (rule9-one, rule10-one, rule11-one, rule12-one, links13-one, rule14-one)
+  rules-one = cc (rule9-one, rule10-one, rule11-one, rule12-one, links13-one, rule14-one, rule16-one)
     where
       links13-one : linksOf (oneDomain e) (link13 (oneDomain e)) ≡ linksOf e (oldLink13 e)
       links13-one = ap (linksOf e) (λ i a b. link13-one a b i)
@@ -183,16 +187,10 @@ one-was : (bytes : List ℕ) (e : Execution) → Begins bytes e → ((k : ℕ) �
 unfolding oneDomain
 one-was bytes e w old = λ i. record { processors = e .processors; lines = same i; instructions = e .instructions; pairs = e .pairs }
   where
-    first : (k : ℕ) → getD (take 9 (drop (9 * k) (drop 2 bytes))) 0 0 ≡ attributeByte bytes k
-    first k =
-        let place : 2 + (9 * k + 0) ≡ 2 + 9 * k = omega arith in
-        getD-take 9 (drop (9 * k) (drop 2 bytes)) 0 0 (omega arith) ∙ getD-drop (9 * k) (drop 2 bytes) 0 0 ∙ getD-drop 2 bytes (9 * k + 0) 0
-        ∙ ap (λ (i : ℕ). getD bytes i 0) place
-
     line-was : (k : ℕ) → k < length (e .lines) → lineWithoutDomain (getD (e .lines) k noLine) ≡ getD (e .lines) k noLine
     line-was k l =
         subst (λ (m : Line). lineWithoutDomain m ≡ m) (sym (w .line-is k l))
-        (old-line (take 9 (drop (9 * k) (drop 2 bytes))) (subst (λ (n : ℕ). n ≤ 2) (sym (first k)) (old k l)))
+        (old-line (take 9 (drop (9 * k) (drop 2 bytes))) (subst (λ (n : ℕ). n ≤ 2) (sym (attribute-place bytes k)) (old k l)))
 
     same : map lineWithoutDomain (e .lines) ≡ e .lines
     same =

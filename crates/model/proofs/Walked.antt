@@ -4,9 +4,9 @@ use native.Mathlib.Omega.{arith}
 use mathlib.Core.Path.{_≡_, sym, ap, _∙_, subst}
 use mathlib.Core.List.{List, [], _∷_, _++_}
 use lib.ListN.{length, getD, take, drop, length-append, List·getD-append}
-use lib.Seq.{drop-drop, getD-append-seam}
+use lib.Seq.{drop-drop, getD-take, getD-drop, getD-append-seam}
 use Rattle.model.specs.Execution.{Line, noLine, Execution}
-use Rattle.model.specs.Questions.{found, item, byte, ask, many, question2, question3, question4, question15, lineOf, readLine, readLines, readInstructions, readPairs, readRecord}
+use Rattle.model.specs.Questions.{found, item, byte, ask, many, question2, question3, question4, question15, lineOf, readLine, readLines, lineAttributes, readInstructions, readPairs, readRecord}
 use Rattle.model.proofs.Accepted.{step, asked-on, byte-came, item-came, many-length}
 
 -- a line is the next nine bytes
@@ -59,13 +59,20 @@ many-rest (suc n) before bytes lines r h =
     let next : 9 * suc n ≡ 9 + 9 * n = omega arith in
     ap (λ (j : ℕ). drop j bytes) next ∙ sym (drop-drop (9 * n) 9 bytes) ∙ ap (drop (9 * n)) is-rest ∙ many-rest n (before ++ (a ∷ [])) rest lines r g)
 
+-- the attribute byte of line k
+pub attribute-place : (bytes : List ℕ) (k : ℕ) → getD (take 9 (drop (9 * k) (drop 2 bytes))) 0 0 ≡ getD bytes (2 + 9 * k) 0
+attribute-place bytes k =
+    let place : 2 + (9 * k + 0) ≡ 2 + 9 * k = omega arith in
+    getD-take 9 (drop (9 * k) (drop 2 bytes)) 0 0 (omega arith) ∙ getD-drop (9 * k) (drop 2 bytes) 0 0 ∙ getD-drop 2 bytes (9 * k + 0) 0
+    ∙ ap (λ (i : ℕ). getD bytes i 0) place
+
 -- a record that is found, up to its instructions
 pub record Begins (bytes : List ℕ) (e : Execution) : Type 0 where
   pub processors-are : getD bytes 0 0 ≡ e .processors
   pub lines-are : getD bytes 1 0 ≡ length (e .lines)
   pub line-is : (k : ℕ) → k < length (e .lines) → getD (e .lines) k noLine ≡ lineOf (take 9 (drop (9 * k) (drop 2 bytes)))
   pub rest : List ℕ
-  pub instructions-are : readInstructions (e .processors) (length (e .lines)) (drop (9 * length (e .lines)) (drop 2 bytes)) ≡ found (e .instructions) rest
+  pub instructions-are : readInstructions (e .processors) (lineAttributes (e .lines)) (drop (9 * length (e .lines)) (drop 2 bytes)) ≡ found (e .instructions) rest
 
 pub begins : (bytes : List ℕ) (e : Execution) (rest : List ℕ) → readRecord bytes ≡ found e rest → Begins bytes e
 unfolding readRecord readLines
@@ -73,7 +80,7 @@ begins bytes e rest h =
     step (byte bytes) _ e rest h (λ p b1 e1 h1.
     step (ask 2 _ b1) _ e rest h1 (λ u2 b2 e2 h2.
     step (readLines b2) _ e rest h2 (λ lines b3 e3 h3.
-    step (readInstructions p (length lines) b3) _ e rest h3 (λ is b4 e4 h4.
+    step (readInstructions p (lineAttributes lines) b3) _ e rest h3 (λ is b4 e4 h4.
     step (readPairs is b4) _ e rest h4 (λ pairs b5 e5 h5.
     step (question15 b5) _ e rest h5 (λ u6 b6 e6 h6.
     step (byte b2) _ lines b3 e3 (λ n c1 g1 k1.
@@ -89,7 +96,7 @@ begins bytes e rest h =
       line-is = λ k l. (let z : k ≡ 0 + k = omega arith in ap (λ (j : ℕ). getD lines j noLine) z) ∙ many-at n [] c2 lines b3 k2 k (omega arith) ∙ ap (λ (b : List ℕ). lineOf (take 9 (drop (9 * k) (drop 2 b)))) (sym whole);
       rest = b4;
       instructions-are =
-          ap (λ (m : ℕ). readInstructions p (length lines) (drop (9 * m) (drop 2 bytes))) counted
-          ∙ ap (λ (b : List ℕ). readInstructions p (length lines) (drop (9 * n) (drop 2 b))) whole
-          ∙ ap (readInstructions p (length lines)) (many-rest n [] c2 lines b3 k2) ∙ e4;
+          ap (λ (m : ℕ). readInstructions p (lineAttributes lines) (drop (9 * m) (drop 2 bytes))) counted
+          ∙ ap (λ (b : List ℕ). readInstructions p (lineAttributes lines) (drop (9 * n) (drop 2 b))) whole
+          ∙ ap (readInstructions p (lineAttributes lines)) (many-rest n [] c2 lines b3 k2) ∙ e4;
     })))))))))

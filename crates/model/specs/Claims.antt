@@ -1,15 +1,15 @@
 -- Claims about the definitions that a reader may quote.
 use Prim.Native.Nat.{ℕ, suc, _+_, _*_, _≤_, _<_}
 use mathlib.Core.Path.{_≡_}
-use mathlib.Core.Bool.{Bool, true, _&&_, _||_}
+use mathlib.Core.Bool.{Bool, true, false, _&&_, _||_}
 use mathlib.Core.List.{List, [], _∷_, _++_, map, List·Memᴰ}
 use mathlib.Core.Logic.{_↔_}
 use lib.ListN.{length, getD, take, set, replicate}
 use Rattle.base.specs.Lists.{member, distinct}
 use Rattle.base.specs.Lex.{Less}
-use Rattle.model.specs.Execution.{Kind, isLoad, isStore, isAcquire, isRelease, isFence, Attribute, WB, UC, WC, attributeNumber, attributeOf, Line, Instruction, Execution, Operation, operations}
+use Rattle.model.specs.Execution.{Kind, isLoad, isStore, isAcquire, isRelease, isFence, Attribute, WB, UC, WC, attributeNumber, attributeOf, Line, Instruction, Execution, Operation, operations, semaphores}
 use Rattle.model.specs.Questions.{at, lineLength, initialPlace, question2, question3, question4, lineOf}
-use Rattle.model.specs.Rules.{isRorLV, earlier, link8, inUC, link13, Claim, must, sees, linksOf, sightOf, rules, broken, keeps, consistent}
+use Rattle.model.specs.Rules.{accesses, isRorLV, earlier, link8, inUC, link13, Claim, must, sees, linksOf, sightOf, rules, local, broken, keeps, consistent}
 use Rattle.model.specs.ProgramOrder.{marks}
 use Rattle.model.specs.Search.{allowed, prefixes, after}
 use Rattle.model.specs.Calls.{says, refuses, readAll, judgeOrder, judgeCall, Legal, searchSaved, searchReply, searchCall, done, tableMarks, tableReply, tableCall}
@@ -154,3 +154,11 @@ OneInitialByte =
     (b : ℕ) (bytes others : List ℕ) (e d : Execution) → DifferElsewhere b bytes others e d
     → (e .instructions ≡ d .instructions)
     × ((l : Instruction) (xs : List ℕ) → broken xs (sees (sightOf e l b)) ≡ broken xs (sees (sightOf d l b)))
+
+-- P3, Lemma 1 of the note: in a legal order no semaphore is local for a byte it reads.
+abbrev pub NoSemaphoreLocal : Type 0
+NoSemaphoreLocal =
+    (bytes : List ℕ) (e : Execution) → readAll bytes ≡ says e
+    → (order : List ℕ) → Legal bytes order
+    → (s : Instruction) → List·Memᴰ s (semaphores e)
+    → (b : ℕ) → accesses s b ≡ true → local order (sightOf e s b) ≡ false

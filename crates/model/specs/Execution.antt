@@ -1,6 +1,6 @@
 -- The execution that a record holds: processors, lines of memory, instructions and dependence pairs; instructions and their operations by number.
 use Prim.Native.Nat.{ℕ, suc, _+_, _*_, _/_, _%_}
-use mathlib.Core.Bool.{Bool, true, false, cond}
+use mathlib.Core.Bool.{Bool, true, false, not, cond, _&&_}
 use mathlib.Core.List.{List, [], _∷_, _++_, map}
 use lib.ListN.{length, getD}
 use lib.Dec.{eqb}
@@ -8,10 +8,10 @@ use Rattle.base.specs.Lists.{any, keep, for, below}
 
 -- The kind of an instruction. Its number in the record is its place in this list.
 pub data Kind : Type 0 where
-  ld ld-acq st st-rel mf : Kind
+  ld ld-acq st st-rel mf sem-acq sem-rel : Kind
 
 abbrev pub kindOf : ℕ → Kind
-kindOf k = getD (ld ∷ ld-acq ∷ st ∷ st-rel ∷ []) k mf
+kindOf k = getD (ld ∷ ld-acq ∷ st ∷ st-rel ∷ mf ∷ sem-acq ∷ []) k sem-rel
 
 -- What an operation is to its instruction. RV q is remote visibility to processor q.
 pub data Role : Type 0 where
@@ -66,6 +66,8 @@ kindRow ld-acq = kindDoes true false true false false 1 1 (R ∷ [])
 kindRow st = kindDoes false true false false false 2 2 (LV ∷ [])
 kindRow st-rel = kindDoes false true false true false 3 3 (LV ∷ [])
 kindRow mf = kindDoes false false false false true 4 4 (F ∷ [])
+kindRow sem-acq = kindDoes true true true false false 1 2 (R ∷ LV ∷ [])
+kindRow sem-rel = kindDoes true true false true false 3 3 (R ∷ LV ∷ [])
 
 abbrev pub isLoad : Kind → Bool
 isLoad k = kindRow k .reads
@@ -81,6 +83,14 @@ isRelease k = kindRow k .releases
 
 abbrev pub isFence : Kind → Bool
 isFence k = kindRow k .fences
+
+-- a semaphore (document 02, P3): both a load and a store
+abbrev pub isSemaphore : Kind → Bool
+isSemaphore k = isLoad k && isStore k
+
+-- a store that is no semaphore
+abbrev pub isOnlyStore : Kind → Bool
+isOnlyStore k = isStore k && not (isLoad k)
 
 -- The attribute of a line. UC d is uncacheable memory of peripheral domain d.
 pub data Attribute : Type 0 where
@@ -129,7 +139,8 @@ pub record Line : Type 0 where
   pub attribute : Attribute
   pub initial : List ℕ
 
--- An instruction. `number` is its own number, `first` that of its first operation. `bytes` is what a load saw or a store wrote, one byte for each address.
+-- An instruction. `number` is its own number, `first` that of its first operation. `seen` is what a load saw and `wrote` what a store wrote, one byte for each
+-- address; a load that is no store wrote nothing, a store that is no load saw nothing.
 pub record Instruction : Type 0 where
   pub number : ℕ
   pub first : ℕ
@@ -137,7 +148,8 @@ pub record Instruction : Type 0 where
   pub kind : Kind
   pub address : ℕ
   pub size : ℕ
-  pub bytes : List ℕ
+  pub seen : List ℕ
+  pub wrote : List ℕ
 
 pub record Execution : Type 0 where
   pub processors : ℕ
@@ -147,7 +159,8 @@ pub record Execution : Type 0 where
 
 -- Operations
 
--- the operations that an instruction gives with P processors, in the order of their numbers: a load gives R; a store gives LV, then RV_0 to RV_(P-1); an mf gives F
+-- the operations that an instruction gives with P processors, in the order of their numbers: a load gives R; a store gives LV, then RV_0 to RV_(P-1); an mf gives F; a semaphore gives
+-- R, LV, then RV_0 to RV_(P-1)
 unfoldable pub roles : ℕ → Kind → List Role
 roles p k = kindRow k .beforeRemotes ++ cond (isStore k) (map RV (below p)) []
 
@@ -203,6 +216,9 @@ module _ (e : Execution) where
 
   unfoldable pub stores : List Instruction
   stores = keep (λ i. isStore (i .kind)) (e .instructions)
+
+  unfoldable pub semaphores : List Instruction
+  semaphores = keep (λ i. isSemaphore (i .kind)) (e .instructions)
 
   unfoldable pub everyProcessor : List ℕ
   everyProcessor = below (e .processors)

@@ -48,6 +48,16 @@ st-rel address value = entry 3 address 1 value
 abbrev pub mf : List ℕ
 mf = entry 4 0 0 0
 
+-- a semaphore with one byte seen and one written
+abbrev pub semaphore : ℕ → ℕ → ℕ → ℕ → List ℕ
+semaphore kind address sees writes = entry kind address 1 sees ++ (writes ∷ replicate 7 0)
+
+abbrev pub sem-acq : ℕ → ℕ → ℕ → List ℕ
+sem-acq address sees writes = semaphore 5 address sees writes
+
+abbrev pub sem-rel : ℕ → ℕ → ℕ → List ℕ
+sem-rel address sees writes = semaphore 6 address sees writes
+
 unfoldable pub recordOf : List (List ℕ) → List (List (List ℕ)) → List (ℕ × ℕ) → List ℕ
 recordOf lines programs pairs =
     length programs ∷ length lines ∷ for lines (λ l. l)

@@ -2,8 +2,8 @@
 use Prim.Native.Nat.{ℕ, _+_}
 use mathlib.Core.List.{List, [], _∷_, _++_, map}
 use lib.ListN.{take, drop, replicate}
-use Rattle.base.specs.Lists.{for, below}
-use Rattle.model.specs.Notation.{x, wb, uc, wc, uc-of, zeros, ld, st, mf, entry, recordOf}
+use Rattle.base.specs.Lists.{for, count, below}
+use Rattle.model.specs.Notation.{x, y, wb, uc, wc, uc-of, zeros, ld, st, mf, entry, sem-acq, sem-rel, recordOf}
 use Rattle.model.specs.Rows.{Row, judged-no, searched-no, tabled-no, cut}
 use Rattle.model.specs.PaperTable.{k1, k2, k11-pair}
 use Rattle.model.specs.RequestTable.{nothing}
@@ -40,6 +40,14 @@ manyPairs n = recordOf (wb ∷ []) (replicate 10 (ld x 0) ∷ []) (take n (for (
 abbrev eight : ℕ → ℕ → List ℕ
 eight stores loads = programs ((replicate stores (st x 1) ++ replicate loads (ld x 0)) ∷ replicate 7 [])
 
+-- a semaphore of which eight bytes are missing
+abbrev cut-short : ℕ → ℕ → List ℕ
+cut-short kind size = 1 ∷ 1 ∷ wb ++ (1 ∷ entry kind 0 size 0)
+
+-- a semaphore that saw one byte, with a spare byte that is not zero
+abbrev spare-seen : List ℕ
+spare-seen = (5 ∷ 0 ∷ 1 ∷ 5 ∷ 1 ∷ replicate 6 0) ++ (5 ∷ replicate 7 0)
+
 unfoldable pub questionTable : List Row
 questionTable =
     -- 1: before each item, and before the item's own questions
@@ -66,9 +74,18 @@ questionTable =
     ∷ refused (programs (replicate 41 (ld x 0) ∷ [])) 5
     ∷ refused (programs (replicate 40 (ld x 0) ∷ (ld x 0 ∷ []) ∷ [])) 5
     ∷ passes (programs (replicate 39 (ld x 0) ∷ (ld x 0 ∷ []) ∷ []))
-    -- 6: kinds 0 to 4
-    ∷ refused (only (entry 5 0 1 0)) 6
+    -- 6: kinds 0 to 6
+    ∷ refused (only (entry 7 0 1 0)) 6
+    ∷ refused (only (entry 255 0 1 0)) 6
     ∷ passes (only mf)
+    ∷ passes (only (sem-acq x 0 1))
+    ∷ passes (only (sem-rel x 0 1))
+    -- 1 of a semaphore: eleven bytes before 6 and 7, the other eight after 7
+    ∷ refused (cut-short 7 0) 6
+    ∷ refused (cut-short 5 3) 7
+    ∷ refused (cut-short 5 1) 1
+    ∷ refused (cut-short 6 8) 1
+    ∷ cut (only (sem-acq x 0 1)) 1
     -- 7: sizes 1, 2, 4 and 8, of an mf 0
     ∷ refused (only (entry 0 0 0 0)) 7
     ∷ refused (only (entry 0 0 3 0)) 7
@@ -82,11 +99,22 @@ questionTable =
     ∷ refused (only (entry 4 8 0 0)) 8
     ∷ refused (only (entry 4 1 0 0)) 8
     ∷ passes (only (ld 7 0))
+    -- 26: a semaphore's line is WB; after 8, before 9
+    ∷ refused (recordOf (uc ∷ []) ((sem-acq x 0 1 ∷ []) ∷ []) []) 26
+    ∷ refused (recordOf (wc ∷ []) ((sem-rel x 0 1 ∷ []) ∷ []) []) 26
+    ∷ refused (recordOf (wb ∷ uc ∷ []) ((sem-rel x 0 1 ∷ sem-rel y 0 1 ∷ []) ∷ []) []) 26
+    ∷ passes (recordOf (uc ∷ wb ∷ []) ((st x 1 ∷ sem-rel y 0 1 ∷ []) ∷ []) [])
+    ∷ refused (recordOf (uc ∷ []) ((sem-acq y 0 1 ∷ []) ∷ []) []) 8
+    ∷ refused (recordOf (uc ∷ []) ((spare-seen ∷ []) ∷ []) []) 26
     -- 9: data bytes past the size are zero
     ∷ refused (only (0 ∷ 0 ∷ 1 ∷ 5 ∷ 1 ∷ 0 ∷ 0 ∷ 0 ∷ 0 ∷ 0 ∷ 0 ∷ [])) 9
     ∷ refused (only (0 ∷ 0 ∷ 4 ∷ 5 ∷ 1 ∷ 1 ∷ 1 ∷ 0 ∷ 0 ∷ 0 ∷ 1 ∷ [])) 9
     ∷ refused (only (0 ∷ 0 ∷ 1 ∷ 5 ∷ 0 ∷ 0 ∷ 0 ∷ 0 ∷ 0 ∷ 0 ∷ 1 ∷ [])) 9
     ∷ refused (only (entry 4 0 0 1)) 9
+    ∷ refused (only spare-seen) 9
+    ∷ refused (only (entry 6 0 1 5 ++ (5 ∷ 1 ∷ replicate 6 0))) 9
+    ∷ refused (only (entry 6 0 1 5 ++ (5 ∷ replicate 6 0 ++ (1 ∷ [])))) 9
+    ∷ passes (only (5 ∷ 0 ∷ 8 ∷ count 1 16))
     ∷ passes (only (2 ∷ 0 ∷ 8 ∷ 1 ∷ 2 ∷ 3 ∷ 4 ∷ 5 ∷ 6 ∷ 7 ∷ 8 ∷ []))
     -- 10 is not asked: a record with no instruction passes (`RequestTable`), and where it is cut it is refused as any other
     ∷ cut nothing 1
@@ -95,6 +123,9 @@ questionTable =
     ∷ refused (eight 15 0) 11
     ∷ passes (eight 14 2)
     ∷ refused (eight 14 3) 11
+    -- a semaphore has 2 + P
+    ∷ passes (programs (replicate 12 (sem-acq x 0 1) ∷ replicate 8 (ld x 0) ∷ replicate 6 []))
+    ∷ refused (programs (replicate 12 (sem-acq x 0 1) ∷ replicate 9 (ld x 0) ∷ replicate 6 [])) 11
     -- 12: 40 pairs
     ∷ passes (manyPairs 40)
     ∷ refused (manyPairs 41) 12
@@ -107,6 +138,9 @@ questionTable =
     ∷ refused (pairs ((0, 3) ∷ [])) 13
     ∷ refused (pairs ((3, 4) ∷ [])) 13
     ∷ refused (pairs ((1, 4) ∷ [])) 13
+    -- a semaphore is no store here
+    ∷ passes (recordOf (wb ∷ []) ((st x 1 ∷ sem-rel x 1 2 ∷ sem-acq x 2 3 ∷ st x 4 ∷ []) ∷ []) ((0, 1) ∷ (1, 2) ∷ (2, 3) ∷ []))
+    ∷ refused (recordOf (wb ∷ []) ((st x 1 ∷ sem-rel x 1 2 ∷ sem-acq x 2 3 ∷ st x 4 ∷ []) ∷ []) ((0, 3) ∷ [])) 13
     -- 14: above the one before it
     ∷ refused (pairs ((0, 1) ∷ (0, 1) ∷ [])) 14
     ∷ refused (pairs ((0, 2) ∷ (0, 1) ∷ [])) 14

@@ -5,7 +5,7 @@ use mathlib.Core.List.{List, [], _∷_, _++_, map}
 use lib.ListN.{length, getD, take, drop}
 use lib.Dec.{eqb, leb, ltb}
 use Rattle.base.specs.Lists.{all, member}
-use Rattle.model.specs.Execution.{Kind, kindOf, isStore, isFence, mf, attributeNumber, attributeOf, attributes, Line, Instruction, Execution, operationCount}
+use Rattle.model.specs.Execution.{Kind, kindOf, isLoad, isStore, isFence, isSemaphore, isOnlyStore, mf, Attribute, WC, isWB, attributeNumber, attributeOf, attributes, Line, Instruction, Execution, operationCount}
 
 -- What a walk comes to: the number of the first question answered 'no', or a value and the bytes after it.
 pub data Found (A : Type 0) : Type 0 where
@@ -49,7 +49,7 @@ ask q false bytes = no-to q
 abbrev pub at : List ℕ → ℕ → ℕ
 at x k = getD x k 0
 
--- the bytes of a line, of an instruction and of a pair
+-- the bytes of a line
 abbrev pub lineLength : ℕ
 lineLength = 9
 
@@ -57,9 +57,14 @@ lineLength = 9
 abbrev pub initialPlace : ℕ → ℕ
 initialPlace a = 3 + lineLength * (a / 8) + a % 8
 
+-- the bytes of an instruction: a kind, an address, a size, eight data bytes; for a semaphore eight more
 abbrev pub entryLength : ℕ
 entryLength = 11
 
+abbrev pub moreLength : Kind → ℕ
+moreLength k = cond (isSemaphore k) 8 0
+
+-- the bytes of a pair
 abbrev pub pairLength : ℕ
 pairLength = 2
 
@@ -79,9 +84,9 @@ question4 a = member (map attributeNumber attributes) a
 unfoldable pub question5 : List Instruction → ℕ → Bool
 question5 done n = leb (length done + n) 40
 
--- 6: is the kind 0 to 4?
+-- 6: is the kind 0 to 6?
 unfoldable pub question6 : ℕ → Bool
-question6 k = leb k 4
+question6 k = leb k 6
 
 -- 7: is the size 1, 2, 4 or 8 (mf: 0)?
 unfoldable pub question7 : Kind → ℕ → Bool
@@ -92,9 +97,16 @@ unfoldable pub question8 : ℕ → Kind → ℕ → ℕ → Bool
 question8 lines k size address =
     cond (isFence k) (eqb address 0) (eqb (address % size) 0 && leb (address + size) (8 * lines))
 
--- 9: are data bytes past the size zero?
+-- 26 (document 02, P3), at once after 8: is a semaphore's line WB?
+unfoldable pub question26 : List Attribute → Kind → ℕ → Bool
+question26 lines k address = cond (isSemaphore k) (isWB (getD lines (address / 8) WC)) true
+
+-- 9: are data bytes past the size zero, of the first eight and of those after them?
 unfoldable pub question9 : ℕ → List ℕ → Bool
-question9 size bytes = all (eqb 0) (drop size bytes)
+question9 size bytes = spare (take 8 bytes) && spare (drop 8 bytes)
+  where
+    spare : List ℕ → Bool
+    spare value = all (eqb 0) (drop size value)
 
 -- 10 is not asked: document 02, P2, accepts a record with no instruction. The number stays unused.
 
@@ -107,9 +119,9 @@ unfoldable pub question12 : ℕ → Bool
 question12 n = leb n 40
 
 abbrev noInstruction : Instruction
-noInstruction = record { number = 0; first = 0; processor = 0; kind = mf; address = 0; size = 0; bytes = [] }
+noInstruction = record { number = 0; first = 0; processor = 0; kind = mf; address = 0; size = 0; seen = []; wrote = [] }
 
--- 13: is the pair's first number below its second, both in one program, neither an mf, not both stores?
+-- 13: is the pair's first number below its second, both in one program, neither an mf, not both stores (a semaphore is none here)?
 unfoldable pub question13 : List Instruction → ℕ → ℕ → Bool
 question13 is m n =
     let i = getD is m noInstruction in
@@ -117,7 +129,7 @@ question13 is m n =
     ltb m n
     && (ltb n (length is) && eqb (i .processor) (j .processor))
     && (not (isFence (i .kind)) && not (isFence (j .kind)))
-    && not (isStore (i .kind) && isStore (j .kind))
+    && not (isOnlyStore (i .kind) && isOnlyStore (j .kind))
 
 -- 14: is the pair above the one before it (first number, then second)?
 unfoldable pub question14 : List (ℕ × ℕ) → ℕ → ℕ → Bool
@@ -156,7 +168,18 @@ readLines = do
   ask 3 (question3 n)
   many (λ done. readLine) n []
 
--- an instruction of processor p; `done` are those before it
+-- what an instruction saw and what it wrote, of its size, by its data bytes: a semaphore has both, the eight bytes seen first
+unfoldable pub seenOf : Kind → ℕ → List ℕ → List ℕ
+seenOf k size bytes = cond (isLoad k) (take size bytes) []
+
+-- where the bytes written begin
+abbrev pub writtenFrom : Kind → ℕ
+writtenFrom k = cond (isSemaphore k) 8 0
+
+unfoldable pub wroteOf : Kind → ℕ → List ℕ → List ℕ
+wroteOf k size bytes = cond (isStore k) (take size (drop (writtenFrom k) bytes)) []
+
+-- an instruction of processor p, by all bytes of its entry; `done` are those before it
 unfoldable pub instructionOf : ℕ → ℕ → List Instruction → List ℕ → Instruction
 instructionOf processors p done x = record {
   number = length done;
@@ -165,33 +188,37 @@ instructionOf processors p done x = record {
   kind = kindOf (at x 0);
   address = at x 1;
   size = at x 2;
-  bytes = take (at x 2) (drop 3 x);
+  seen = seenOf (kindOf (at x 0)) (at x 2) (drop 3 x);
+  wrote = wroteOf (kindOf (at x 0)) (at x 2) (drop 3 x);
 }
 
-unfoldable pub readInstruction : ℕ → ℕ → ℕ → List Instruction → Reader Instruction
+-- `lines` are the attributes of the lines
+unfoldable pub readInstruction : ℕ → List Attribute → ℕ → List Instruction → Reader Instruction
 readInstruction processors lines p done = do
   x ← item entryLength
   ask 6 (question6 (at x 0))
   ask 7 (question7 (kindOf (at x 0)) (at x 2))
-  ask 8 (question8 lines (kindOf (at x 0)) (at x 2) (at x 1))
-  ask 9 (question9 (at x 2) (drop 3 x))
-  pure (instructionOf processors p done x)
+  y ← item (moreLength (kindOf (at x 0)))
+  ask 8 (question8 (length lines) (kindOf (at x 0)) (at x 2) (at x 1))
+  ask 26 (question26 lines (kindOf (at x 0)) (at x 1))
+  ask 9 (question9 (at x 2) (drop 3 (x ++ y)))
+  pure (instructionOf processors p done (x ++ y))
 
 -- the program of processor p, from its count on
-unfoldable pub readProgram : ℕ → ℕ → ℕ → List Instruction → Reader (List Instruction)
+unfoldable pub readProgram : ℕ → List Attribute → ℕ → List Instruction → Reader (List Instruction)
 readProgram processors lines p done = do
   n ← byte
   ask 5 (question5 done n)
   many (readInstruction processors lines p) n done
 
 -- the programs of so many processors, from processor p on
-unfoldable pub readPrograms : ℕ → ℕ → ℕ → ℕ → List Instruction → Reader (List Instruction)
+unfoldable pub readPrograms : ℕ → List Attribute → ℕ → ℕ → List Instruction → Reader (List Instruction)
 readPrograms processors lines p zero done = pure done
 readPrograms processors lines p (suc left) done = do
   more ← readProgram processors lines p done
   readPrograms processors lines (suc p) left more
 
-unfoldable pub readInstructions : ℕ → ℕ → Reader (List Instruction)
+unfoldable pub readInstructions : ℕ → List Attribute → Reader (List Instruction)
 readInstructions processors lines = do
   is ← readPrograms processors lines 0 processors []
   ask 11 (question11 (operationCount processors is))
@@ -211,12 +238,15 @@ readPairs is = do
   ask 12 (question12 n)
   many (readPair is) n []
 
+abbrev pub lineAttributes : List Line → List Attribute
+lineAttributes lines = map (λ l. l .attribute) lines
+
 unfoldable pub readRecord : Reader Execution
 readRecord = do
   p ← byte
   ask 2 (question2 p)
   lines ← readLines
-  is ← readInstructions p (length lines)
+  is ← readInstructions p (lineAttributes lines)
   pairs ← readPairs is
   question15
   pure (record { processors = p; lines = lines; instructions = is; pairs = pairs })

@@ -9,8 +9,8 @@ use Rattle.model.specs.Search.{allowed, forbidden}
 use Rattle.model.specs.Calls.{says, legal, breaks}
 use Rattle.model.specs.Courses.{proper, other}
 use Rattle.model.specs.Verdict.{wordAllowed, wordSteps}
-use Rattle.model.specs.Notation.{x, y, wb, uc, uc-of, ld, st, st-rel, recordOf}
-use Rattle.model.specs.RuleTable.{one, two}
+use Rattle.model.specs.Notation.{x, y, wb, uc, uc-of, ld, st, st-rel, mf, sem-acq, sem-rel, recordOf}
+use Rattle.model.specs.RuleTable.{one, one-pair, two}
 use Rattle.model.specs.Rows.{Row, lent, judged, searched, tabled, printed, followed}
 
 -- P2: two processors, and nothing in their programs
@@ -28,6 +28,10 @@ from-1-to-16 program = one (0 ∷ count 1 8) (0 ∷ count 9 8) program
 -- and a load of addresses 12 and 13
 abbrev ld-two : ℕ → ℕ → List ℕ
 ld-two low high = 0 ∷ 12 ∷ 2 ∷ low ∷ high ∷ replicate 6 0
+
+-- P3: one program on a WB line
+abbrev alone : List (List ℕ) → List ℕ
+alone program = recordOf (wb ∷ []) (program ∷ []) []
 
 unfoldable pub requestTable : List Row
 requestTable =
@@ -79,4 +83,46 @@ requestTable =
     ∷ judged (two (uc-of 3) wb (st x 1 ∷ []) (st x 2 ∷ [])) (0 ∷ 1 ∷ 3 ∷ 5 ∷ 2 ∷ 4 ∷ []) (breaks 10)
     ∷ judged (two (uc-of 3) wb (st-rel x 1 ∷ []) (ld y 0 ∷ [])) (0 ∷ 1 ∷ 3 ∷ 2 ∷ []) legal
     ∷ judged (one (uc-of 3) wb (st x 1 ∷ ld x 1 ∷ [])) (0 ∷ 2 ∷ 1 ∷ []) (breaks 14)
+    -- P3: R, LV, RV_0 onwards; rule 15: R before LV
+    ∷ judged (alone (sem-acq x 0 1 ∷ [])) (0 ∷ 1 ∷ 2 ∷ []) legal
+    ∷ judged (alone (sem-acq x 1 1 ∷ [])) (1 ∷ 0 ∷ 2 ∷ []) (breaks 15)
+    ∷ judged (alone (sem-rel x 0 1 ∷ [])) (0 ∷ 2 ∷ 1 ∷ []) (breaks 1)
+    ∷ judged (alone (sem-acq x 1 1 ∷ [])) (0 ∷ 1 ∷ 2 ∷ []) (breaks 11)
+    ∷ judged (alone (sem-acq x 0 1 ∷ [])) (1 ∷ 0 ∷ 2 ∷ []) (breaks 11)
+    -- P3, rule 2: the acquiring kind by its R alone, its own LV and RV are not later and hold nothing back
+    ∷ judged (one wb wb (sem-acq x 0 1 ∷ ld y 0 ∷ [])) (3 ∷ 0 ∷ 1 ∷ 2 ∷ []) (breaks 2)
+    ∷ judged (one wb wb (sem-acq x 0 1 ∷ ld y 0 ∷ [])) (0 ∷ 3 ∷ 1 ∷ 2 ∷ []) legal
+    ∷ judged (one wb wb (sem-rel x 0 1 ∷ ld y 0 ∷ [])) (3 ∷ 0 ∷ 1 ∷ 2 ∷ []) legal
+    ∷ judged (one wb wb (sem-rel x 0 1 ∷ sem-acq y 0 1 ∷ [])) (3 ∷ 4 ∷ 5 ∷ 0 ∷ 1 ∷ 2 ∷ []) legal
+    -- P3, rule 3: an earlier load's R before every operation, the R too; an earlier semaphore is load and store
+    ∷ judged (one wb wb (ld y 0 ∷ sem-rel x 0 1 ∷ [])) (1 ∷ 0 ∷ 2 ∷ 3 ∷ []) (breaks 3)
+    ∷ judged (one wb wb (ld y 0 ∷ sem-acq x 0 1 ∷ [])) (1 ∷ 0 ∷ 2 ∷ 3 ∷ []) legal
+    ∷ judged (one wb wb (sem-rel x 0 1 ∷ sem-rel y 0 1 ∷ [])) (3 ∷ 0 ∷ 1 ∷ 2 ∷ 4 ∷ 5 ∷ []) (breaks 3)
+    ∷ judged (one wb wb (sem-rel x 0 1 ∷ sem-rel y 0 1 ∷ [])) (0 ∷ 3 ∷ 4 ∷ 1 ∷ 2 ∷ 5 ∷ []) (breaks 3)
+    ∷ judged (one wb wb (sem-rel x 0 1 ∷ sem-rel y 0 1 ∷ [])) (0 ∷ 1 ∷ 3 ∷ 4 ∷ 2 ∷ 5 ∷ []) legal
+    ∷ judged (one wb wb (st x 1 ∷ sem-rel y 0 1 ∷ [])) (2 ∷ 0 ∷ 3 ∷ 1 ∷ 4 ∷ []) legal
+    ∷ judged (one wb wb (sem-acq x 0 1 ∷ st-rel y 1 ∷ [])) (0 ∷ 3 ∷ 1 ∷ 2 ∷ 4 ∷ []) (breaks 3)
+    ∷ judged (one wb wb (sem-acq x 0 1 ∷ mf ∷ [])) (0 ∷ 1 ∷ 3 ∷ 2 ∷ []) (breaks 4)
+    -- P3, rules 5 to 7: between two different instructions
+    ∷ judged (one wb wb (st x 1 ∷ sem-acq x 1 2 ∷ [])) (2 ∷ 0 ∷ 1 ∷ 3 ∷ 4 ∷ []) (breaks 5)
+    ∷ judged (one wb wb (ld x 0 ∷ sem-acq x 0 2 ∷ [])) (1 ∷ 2 ∷ 0 ∷ 3 ∷ []) (breaks 6)
+    ∷ judged (one wb wb (sem-rel x 0 2 ∷ st x 2 ∷ [])) (0 ∷ 3 ∷ 1 ∷ 2 ∷ 4 ∷ []) (breaks 7)
+    -- P3, rule 8: at a semaphore R, as the later one and as the earlier one
+    ∷ judged (one-pair (st y 1 ∷ sem-acq x 0 1 ∷ [])) (2 ∷ 0 ∷ 1 ∷ 3 ∷ 4 ∷ []) (breaks 8)
+    ∷ judged (one-pair (sem-rel x 0 1 ∷ st y 1 ∷ [])) (3 ∷ 0 ∷ 1 ∷ 2 ∷ 4 ∷ []) (breaks 8)
+    ∷ judged (one-pair (sem-rel x 0 1 ∷ st y 1 ∷ [])) (0 ∷ 3 ∷ 1 ∷ 2 ∷ 4 ∷ []) legal
+    ∷ judged (one-pair (sem-rel x 0 1 ∷ sem-acq y 0 1 ∷ [])) (3 ∷ 0 ∷ 1 ∷ 2 ∷ 4 ∷ 5 ∷ []) (breaks 8)
+    ∷ judged (one-pair (sem-rel x 0 1 ∷ sem-acq y 0 1 ∷ [])) (0 ∷ 3 ∷ 4 ∷ 5 ∷ 1 ∷ 2 ∷ []) legal
+    -- P3, rule 12: for the releasing kind, never for the acquiring one
+    ∷ judged (two wb wb (sem-rel x 0 1 ∷ []) (ld y 0 ∷ [])) (0 ∷ 1 ∷ 2 ∷ 4 ∷ 3 ∷ []) (breaks 12)
+    ∷ judged (two wb wb (sem-acq x 0 1 ∷ []) (ld y 0 ∷ [])) (0 ∷ 1 ∷ 2 ∷ 4 ∷ 3 ∷ []) legal
+    -- P3, rule 16: no RV_p of another overlapping store between R and RV_p, by anyone; another processor's RV of it is free, and so is a store to other bytes
+    ∷ judged (two wb wb (sem-acq x 0 1 ∷ []) (st x 2 ∷ [])) (0 ∷ 1 ∷ 4 ∷ 6 ∷ 5 ∷ 2 ∷ 3 ∷ []) (breaks 16)
+    ∷ judged (two wb wb (sem-acq x 0 1 ∷ []) (st x 2 ∷ [])) (0 ∷ 1 ∷ 4 ∷ 2 ∷ 3 ∷ 6 ∷ 5 ∷ []) legal
+    ∷ judged (two wb wb (sem-acq x 0 1 ∷ []) (st 1 2 ∷ [])) (0 ∷ 1 ∷ 4 ∷ 6 ∷ 5 ∷ 2 ∷ 3 ∷ []) legal
+    ∷ judged (two wb wb (st x 2 ∷ []) (sem-acq x 2 1 ∷ [])) (0 ∷ 1 ∷ 2 ∷ 3 ∷ 4 ∷ 6 ∷ 5 ∷ []) legal
+    -- P3: a lock taken by two processors, both seeing 0; a lock handed over with its data; the chain table has rule 15
+    ∷ searched (two wb wb (sem-acq x 0 1 ∷ []) (sem-acq x 0 1 ∷ [])) [] 1000 forbidden 50 []
+    ∷ searched (alone (sem-acq x 0 1 ∷ sem-rel x 1 0 ∷ [])) [] 1000 allowed 6 (0 ∷ 1 ∷ 2 ∷ 3 ∷ 4 ∷ 5 ∷ [])
+    ∷ tabled (alone (sem-acq x 0 1 ∷ [])) (0 ∷ 1 ∷ 1 ∷ 0 ∷ 0 ∷ 1 ∷ 0 ∷ 0 ∷ 0 ∷ [])
     ∷ []

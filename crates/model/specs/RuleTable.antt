@@ -16,7 +16,7 @@ abbrev pub one : List ℕ → List ℕ → List (List ℕ) → List ℕ
 one lineX lineY program = recordOf (lineX ∷ lineY ∷ []) (program ∷ []) []
 
 -- one program with the pair 0 1
-abbrev one-pair : List (List ℕ) → List ℕ
+abbrev pub one-pair : List (List ℕ) → List ℕ
 one-pair program = recordOf (wb ∷ wb ∷ []) (program ∷ []) ((0, 1) ∷ [])
 
 -- two programs

@@ -6,7 +6,7 @@ use mathlib.Core.Option.{Option, none, some}
 use lib.ListN.{getD}
 use lib.Dec.{eqb, leb, ltb}
 use Rattle.base.specs.Lists.{any, keep, when, for, count, below, member}
-use Rattle.model.specs.Execution.{isAcquire, isRelease, isWB, isUC, sameDomain, Instruction, Execution, Role, R, LV, F, RV, hasRoleR, hasRoleLV, hasRoleF, hasRoleRV, numberOf, Operation, operations, allOperations, loads, stores, everyProcessor, attributeAt, initialByte}
+use Rattle.model.specs.Execution.{isAcquire, isRelease, isSemaphore, isWB, isUC, sameDomain, Instruction, Execution, Role, R, LV, F, RV, hasRoleR, hasRoleLV, hasRoleF, hasRoleRV, numberOf, Operation, operations, allOperations, loads, stores, semaphores, everyProcessor, attributeAt, initialByte}
 
 -- 'A before B' as a prefix (document 01: beginning) settles it: A stands in it, and B stands later or not at all
 unfoldable pub before : List ℕ → ℕ → ℕ → Bool
@@ -24,10 +24,10 @@ accesses i a = leb (i .address) a && ltb a (i .address + i .size)
 
 -- the byte that a load saw, or that a store wrote, at an address
 abbrev pub byteSeen : Instruction → ℕ → ℕ
-byteSeen i a = getD (i .bytes) (a - i .address) 0
+byteSeen i a = getD (i .seen) (a - i .address) 0
 
 abbrev pub byteWritten : Instruction → ℕ → ℕ
-byteWritten i a = getD (i .bytes) (a - i .address) 0
+byteWritten i a = getD (i .wrote) (a - i .address) 0
 
 -- two accesses overlap when they share a byte
 unfoldable pub overlap : Instruction → Instruction → Bool
@@ -62,6 +62,10 @@ sameVisibility (RV q) b = hasRoleRV b (eqb q)
 abbrev pub isRorLV : Operation → Bool
 isRorLV a = isR a || isLV a
 
+-- what an end of a dependence pair stands for: R or LV; of a semaphore R
+abbrev pub isEnd : Operation → Bool
+isEnd a = isR a || isLV a && not (isSemaphore (a .instruction .kind))
+
 -- two operations of one instruction
 abbrev pub sameInstruction : Operation → Operation → Bool
 sameInstruction a b = eqb (a .instruction .number) (b .instruction .number)
@@ -74,17 +78,18 @@ earlier a b =
 abbrev pub overlapping : Operation → Operation → Bool
 overlapping a b = overlap (a .instruction) (b .instruction)
 
--- Rules 1 to 8 and 13 are links: 'a before b' required without an 'if', as relations of two operations.
+-- Rules 1 to 8, 13 and 15 are links: 'a before b' required without an 'if', as relations of two operations.
 
 -- 1 WO: LV(W) before RV_own(W); RV_own(W) before every other RV_q(W)
 unfoldable pub link1 : Operation → Operation → Bool
 link1 a b = sameInstruction a b && (isLV a && isOwnRV b || isOwnRV a && isOtherRV b)
 
--- 2 ACQ: an ld.acq's R before every operation of each later instruction of its program
+-- 2 ACQ: an ld.acq's or acquiring semaphore's R before every operation of each later instruction of its program
 unfoldable pub link2 : Operation → Operation → Bool
 link2 a b = earlier a b && (isAcquire (a .instruction .kind) && isR a)
 
--- 3 REL: for an earlier load, its R before every operation of the st.rel. For an earlier store, LV before LV, and RV_q before RV_q for each q
+-- 3 REL: for an earlier load, its R before every operation of the st.rel or releasing semaphore. For an earlier store, LV before LV, and RV_q before RV_q for each q.
+-- (An earlier semaphore is both.)
 unfoldable pub link3 : Operation → Operation → Bool
 link3 a b = earlier a b && (isRelease (b .instruction .kind) && (isR a || sameVisibility (a .role) (b .role)))
 
@@ -110,9 +115,9 @@ module _ (e : Execution) where
   paired a b =
       any (λ p. eqb (p .0) (a .instruction .number) && eqb (p .1) (b .instruction .number)) (e .pairs)
 
-  -- 8 DF: for a given pair, R or LV of the first before R or LV of the second
+  -- 8 DF: for a given pair, R or LV of the first before R or LV of the second; at a semaphore R
   unfoldable pub link8 : Operation → Operation → Bool
-  link8 a b = paired a b && (isRorLV a && isRorLV b)
+  link8 a b = paired a b && (isEnd a && isEnd b)
 
   abbrev pub inWB : Instruction → Bool
   inWB i = isWB (attributeAt e i)
@@ -127,6 +132,10 @@ module _ (e : Execution) where
   -- 13 UC order: two UC accesses of one program in one domain (document 02, P6): R or LV of the first before R or LV of the second
   unfoldable pub link13 : Operation → Operation → Bool
   link13 a b = earlier a b && inOneDomain (a .instruction) (b .instruction) && (isRorLV a && isRorLV b)
+
+-- 15 (document 02, P3): R before LV of the same semaphore
+unfoldable pub link15 : Operation → Operation → Bool
+link15 a b = sameInstruction a b && (isR a && isLV b)
 
 -- What a rule asks of an order. Each rule is a list of claims.
 
@@ -188,7 +197,7 @@ module _ (e : Execution) where
   rule10 = forConflicts (λ v w. for (everyProcessor e) (λ p. map (λ q.
       numberOf v (RV p) ≺ numberOf w (RV p) ⇒ numberOf v (RV q) ≺ numberOf w (RV q)) (everyProcessor e)))
 
-  -- 11 Read value, for each byte b of a load R by p
+  -- 11 Read value, for each byte b of a load R by p. (A semaphore is among the stores to the bytes that it reads.)
   unfoldable pub sightOf : Instruction → ℕ → Sight
   sightOf l b = record {
     reads = numberOf l R;
@@ -205,7 +214,7 @@ module _ (e : Execution) where
   unfoldable pub rule11 : List Claim
   rule11 = for (loads e) (λ l. map (λ b. sees (sightOf l b)) (addresses l))
 
-  -- 12 WBR: between two RV of one st.rel to WB stand only RV of that st.rel
+  -- 12 WBR: between two RV of one st.rel or releasing semaphore to WB stand only RV of it
   unfoldable pub remoteOf : Instruction → List ℕ
   remoteOf w = map (λ q. numberOf w (RV q)) (everyProcessor e)
 
@@ -220,19 +229,25 @@ module _ (e : Execution) where
       when (inUC e w && (eqb (w .processor) (l .processor) && overlap w l))
       (never (numberOf w LV) (numberOf l R) (RV-own w) ∷ [])))
 
+  -- 16 (document 02, P3): no RV_p of another overlapping store between R and RV_p of a semaphore by p
+  unfoldable pub rule16 : List Claim
+  rule16 = for (semaphores e) (λ s. for (stores e) (λ w. when (not (eqb (s .number) (w .number)) && overlap s w)
+      (never (numberOf s R) (numberOf w (RV (s .processor))) (RV-own s) ∷ [])))
+
   -- the rules, in the order of their numbers
   unfoldable pub rules : List (List Claim)
   rules =
       required link1 ∷ required link2 ∷ required link3 ∷ required link4 ∷ required link5 ∷ required link6 ∷ required link7
-      ∷ required (link8 e) ∷ rule9 ∷ rule10 ∷ rule11 ∷ rule12 ∷ required (link13 e) ∷ rule14 ∷ []
+      ∷ required (link8 e) ∷ rule9 ∷ rule10 ∷ rule11 ∷ rule12 ∷ required (link13 e) ∷ rule14
+      ∷ required link15 ∷ rule16 ∷ []
     where
       required : (Operation → Operation → Bool) → List Claim
       required link = map must (linksOf link)
 
-  -- some rule of 1 to 8 and 13 has a link from a to b
+  -- some rule of 1 to 8, 13 and 15 has a link from a to b
   unfoldable pub linked : Operation → Operation → Bool
   linked a b =
-      link1 a b || link2 a b || link3 a b || link4 a b || link5 a b || link6 a b || link7 a b || link8 e a b || link13 e a b
+      link1 a b || link2 a b || link3 a b || link4 a b || link5 a b || link6 a b || link7 a b || link8 e a b || link13 e a b || link15 a b
 
 -- The byte that rule 11 has a load see
 

@@ -25,7 +25,7 @@ use Rattle.relation_places.specs.Places.{Placed}
 use Rattle.judge_sights.specs.Sights.{sightBroken}
 use Rattle.judge_sights.proofs.RuleLaws.{sight, sight-by}
 use Rattle.search_reduction.specs.Admits.{lastByte, byteNow}
-use Rattle.search_reduction.proofs.Ownership.{is-load, R-in}
+use Rattle.model.proofs.Ownership.{is-load, R-in}
 use Rattle.search_admit.specs.Rows.{readBits, readData, visibleWord, ownWord, wordsAfter, relative}
 use Rattle.search_admit.specs.Fits.{localBit, Standing}
 use Rattle.search_meaning.proofs.Tables.{Tables, TablesMean}

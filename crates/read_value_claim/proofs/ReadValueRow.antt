@@ -12,13 +12,13 @@ use Rattle.base.specs.Lists.{all, any, keep, for, count, below, member, distinc
 use Rattle.base.specs.Below.{allBelow, anyBelow}
 use Rattle.base.specs.Bits.{packedOn, packed, bit}
 use Rattle.base.proofs.Tests.{all-at}
-use Rattle.model.specs.Execution.{roles, placeAmong, remotesAt, operationCount, operations, operationsOf, allOperations, loads, stores, attributes, lineAt, attributeAt}
-use Rattle.model.specs.Questions.{initialPlace, next, item, byte, ask, question2, question3, question4, question5, question6, question7, question8, question9, question11, question12, question15, many, lineOf, readLine, readLines, instructionOf, readInstruction, readProgram, readPrograms, readInstructions, readPairs, readRecord}
+use Rattle.model.specs.Execution.{kindOf, roles, placeAmong, remotesAt, operationCount, operations, operationsOf, allOperations, loads, stores, semaphores, attributes, lineAt, attributeAt}
+use Rattle.model.specs.Questions.{initialPlace, next, item, byte, ask, question2, question3, question4, question5, question6, question7, question8, question26, question9, question11, question12, question15, many, lineOf, readLine, readLines, writtenFrom, seenOf, wroteOf, instructionOf, readInstruction, readProgram, readPrograms, readInstructions, readPairs, readRecord}
 use Rattle.model.specs.ProgramOrder.{ruleMarks, marks}
-use Rattle.model.specs.Rules.{addresses, accesses, overlap, link1, link2, link3, link4, link5, link6, link7, paired, link8, link13, conflict, linked}
+use Rattle.model.specs.Rules.{addresses, accesses, overlap, link1, link2, link3, link4, link5, link6, link7, paired, link8, link13, link15, conflict, linked}
 use Rattle.model.specs.Calls.{says, answerOf, readAll}
 use Rattle.model.specs.Notation.{recordOf}
-use Rattle.record_decoded.specs.Decoded.{eight, decodedLine, linesOf, initialOf, instructionAt, instructionsOf, pairsOf, executionOf}
+use Rattle.record_decoded.specs.Decoded.{dataOf, decodedLine, linesOf, initialOf, instructionAt, instructionsOf, pairsOf, executionOf}
 use Rattle.relation_links.specs.Operations.{operationAt, tableOf}
 use Rattle.relation_links.specs.Compiled.{CompiledIn}
 use Rattle.relation_marks.specs.Marks.{earlierOf, givenPair, marksOf, marksBetween}
@@ -31,7 +31,7 @@ use Rattle.read_value_claim.specs.ReadValueRow.{wide, wideArrays, wideRo
 
 -- the record is accepted, and the arrays hold its execution
 accepts : (v : ℕ) → readAll (wide v) ≡ says (executionOf (wide v) wideArrays)
-unfolding all for count below member attributes roles operationCount next item byte ask question2 question3 question4 question5 question6 question7 question8 question9 question11 question12 question15 many lineOf readLine readLines instructionOf readInstruction readProgram readPrograms readInstructions readPairs readRecord answerOf readAll recordOf eight decodedLine linesOf instructionAt instructionsOf pairsOf executionOf wideArrays wide
+unfolding all for count below member attributes roles operationCount next item byte ask question2 question3 question4 question5 question6 question7 question8 question26 question9 question11 question12 question15 many lineOf readLine readLines instructionOf readInstruction readProgram readPrograms readInstructions readPairs readRecord answerOf readAll recordOf dataOf seenOf wroteOf decodedLine linesOf instructionAt instructionsOf pairsOf executionOf wideArrays wide
 accepts v = refl
 
 -- the table of operations, and the marks
@@ -42,16 +42,16 @@ compiles v = record { tabled = record { holds = refl; counts = refl }; marked = 
 -- what the row of operation o has of the data: one computed test each
 abbrev writtenTest : ℕ → ℕ → Bool
 writtenTest v o =
-    allBelow 64 (λ i. Bool·beq (bit (field (wideRows v) 9 o) i) (writes (getD (k2Operations .roles) o 0) && dataBit (wide v) wideArrays (getD (k2Operations .owners) o 0) i))
+    allBelow 64 (λ i. Bool·beq (bit (field (wideRows v) 9 o) i) (writes (getD (k2Operations .roles) o 0) && dataBit (wide v) wideArrays (getD (k2Operations .owners) o 0) (writtenFrom (kindOf (getD (wideArrays .instructions .kinds) (getD (k2Operations .owners) o 0) 0))) i))
 
 abbrev seenTest : ℕ → ℕ → Bool
 seenTest v o =
-    allBelow 64 (λ i. Bool·beq (bit (field (wideRows v) 12 o) i) (eqb (getD (k2Operations .roles) o 0) 0 && dataBit (wide v) wideArrays (getD (k2Operations .owners) o 0) i))
+    allBelow 64 (λ i. Bool·beq (bit (field (wideRows v) 12 o) i) (eqb (getD (k2Operations .roles) o 0) 0 && dataBit (wide v) wideArrays (getD (k2Operations .owners) o 0) 0 i))
 
 -- the row of each operation
 row-of : (v : ℕ) → allBelow 3 (writtenTest v) ≡ true → allBelow 3 (seenTest v) ≡ true
     → (o : ℕ) → o < 3 → RowOf wideArrays k2Operations k2Marks o (wide v) (λ f. field (wideRows v) f o)
-unfolding any allBelow anyBelow operationCount operations roles remotesAt placeAmong stores keep count below attributeAt lineAt addresses accesses overlap link1 link2 link3 link4 link5 link6 link7 paired link8 link13 linked executionOf linesOf decodedLine instructionsOf instructionAt pairsOf operationAt holds partner covers dataBit awaitedBy wideArrays k2Operations k2Marks wideRows for initialOf recordOf
+unfolding any allBelow anyBelow operationCount operations roles remotesAt placeAmong stores keep count below attributeAt lineAt addresses accesses overlap link1 link2 link3 link4 link5 link6 link7 paired link8 link13 link15 linked executionOf linesOf decodedLine instructionsOf instructionAt pairsOf operationAt holds partner covers dataBit awaitedBy wideArrays k2Operations k2Marks wideRows for initialOf recordOf
 row-of v written seen zero h = record {
   preds-are = same _ _ 128 refl;
   partners-are = same _ _ 128 refl;
@@ -66,6 +66,7 @@ row-of v written seen zero h = record {
   reads-own = λ r. refl;
   own-is = refl;
   local-is = refl;
+  read-is = refl;
 }
 row-of v written seen (suc zero) h = record {
   preds-are = same _ _ 128 refl;
@@ -81,6 +82,7 @@ row-of v written seen (suc zero) h = record {
   reads-own = λ r. refl;
   own-is = refl;
   local-is = refl;
+  read-is = refl;
 }
 row-of v written seen (suc (suc zero)) h = record {
   preds-are = same _ _ 128 refl;
@@ -96,6 +98,7 @@ row-of v written seen (suc (suc zero)) h = record {
   reads-own = λ r. refl;
   own-is = refl;
   local-is = refl;
+  read-is = refl;
 }
 row-of v written seen (suc (suc (suc o))) h = absurd (omega arith)
 

@@ -1,18 +1,33 @@
--- How many lines and instructions the arrays hold, and the instruction at a number.
+-- How many lines and instructions the arrays hold, the attributes of the lines, and the instruction at a number.
 use Prim.Native.Nat.{ℕ, _<_}
-use mathlib.Core.Path.{_≡_, _∙_}
+use mathlib.Core.Path.{_≡_, sym, ap, _∙_}
 use mathlib.Core.List.{List}
-use lib.ListN.{length, getD, length-map}
+use lib.ListN.{length, getD, length-map, List·getD-map}
 use Rattle.base.specs.Lists.{below}
-use Rattle.base.proofs.Lists.{length-count, getD-below}
+use Rattle.base.proofs.Lists.{length-count, getD-below, map-map}
 use Rattle.model.specs.Execution as model
+use Rattle.model.specs.Execution.{attributeOf}
+use Rattle.model.specs.Questions.{lineAttributes}
 use Rattle.record_decoded.specs.declared.types.Lines.{Lines}
 use Rattle.record_decoded.specs.declared.types.Instructions.{Instructions}
-use Rattle.record_decoded.specs.Decoded.{decodedLine, linesOf, instructionAt, instructionsOf}
+use Rattle.record_decoded.specs.Decoded.{decodedLine, linesOf, attributesOf, instructionAt, instructionsOf}
 
 pub lines-length : (part : List ℕ) (x : Lines) → length (linesOf part x) ≡ x .count
 unfolding linesOf below
 lines-length part x = length-map (below (x .count)) (decodedLine part x) ∙ length-count 0 (x .count)
+
+-- the attributes of the lines, whatever their initial bytes are
+pub attributes-are : (part : List ℕ) (x : Lines) → lineAttributes (linesOf part x) ≡ attributesOf x
+unfolding linesOf attributesOf decodedLine
+attributes-are part x = map-map (λ (l : model.Line). l .attribute) (decodedLine part x) (below (x .count))
+
+pub attributes-length : (x : Lines) → length (attributesOf x) ≡ x .count
+unfolding attributesOf below
+attributes-length x = length-map (below (x .count)) (λ k. attributeOf (getD (x .attributes) k 0)) ∙ length-count 0 (x .count)
+
+pub attribute-at : (part : List ℕ) (x : Lines) (k : ℕ) → getD (attributesOf x) k model.WC ≡ getD (linesOf part x) k model.noLine .attribute
+attribute-at part x k =
+    ap (λ (l : List model.Attribute). getD l k model.WC) (sym (attributes-are part x)) ∙ List·getD-map (λ (l : model.Line). l .attribute) (linesOf part x) k model.noLine
 
 pub instructions-length : (x : Instructions) → length (instructionsOf x) ≡ x .count
 unfolding instructionsOf below

@@ -2,7 +2,7 @@
 pub mod Counts
 pub mod Attributes
 pub mod RoleNumbers
-pub mod Eights
+pub mod DataBytes
 pub mod Items
 pub mod Arrays
 pub mod InitialBytes

@@ -8,15 +8,15 @@ use lib.Dec.{ltb}
 use Rattle.base.specs.Lists.{below}
 use Rattle.model.specs.Execution as model
 use Rattle.model.specs.Execution.{kindOf, attributeOf, operationCount}
-use Rattle.model.specs.Questions.{lineLength, initialPlace}
+use Rattle.model.specs.Questions.{lineLength, initialPlace, seenOf, wroteOf}
 use Rattle.record_decoded.specs.declared.types.Lines.{Lines}
 use Rattle.record_decoded.specs.declared.types.Instructions.{Instructions}
 use Rattle.record_decoded.specs.declared.types.Pairs.{Pairs}
 use Rattle.record_decoded.specs.declared.types.Execution.{Execution}
 
--- eight bytes of a list, by their place among its eights
-unfoldable pub eight : List ℕ → ℕ → List ℕ
-eight l k = take 8 (drop (8 * k) l)
+-- the sixteen data bytes of an instruction
+unfoldable pub dataOf : List ℕ → ℕ → List ℕ
+dataOf l i = take 16 (drop (16 * i) l)
 
 -- line k, whose initial bytes stay in the record: `part` is the record from the count of lines on
 unfoldable pub decodedLine : List ℕ → Lines → ℕ → model.Line
@@ -24,6 +24,10 @@ decodedLine part x k = record { attribute = attributeOf (getD (x .attributes) k 
 
 unfoldable pub linesOf : List ℕ → Lines → List model.Line
 linesOf part x = map (decodedLine part x) (below (x .count))
+
+-- the attributes of the lines
+unfoldable pub attributesOf : Lines → List model.Attribute
+attributesOf x = map (λ k. attributeOf (getD (x .attributes) k 0)) (below (x .count))
 
 -- the initial byte of an address in a record of so many lines; 0 past the lines and past the record
 unfoldable pub initialOf : List ℕ → ℕ → ℕ → ℕ
@@ -38,7 +42,8 @@ instructionAt x i = record {
   kind = kindOf (getD (x .kinds) i 0);
   address = getD (x .addresses) i 0;
   size = getD (x .sizes) i 0;
-  bytes = take (getD (x .sizes) i 0) (eight (x .bytes) i);
+  seen = seenOf (kindOf (getD (x .kinds) i 0)) (getD (x .sizes) i 0) (dataOf (x .bytes) i);
+  wrote = wroteOf (kindOf (getD (x .kinds) i 0)) (getD (x .sizes) i 0) (dataOf (x .bytes) i);
 }
 
 unfoldable pub instructionsOf : Instructions → List model.Instruction
@@ -48,7 +53,7 @@ instructionsOf x = map (instructionAt x) (below (x .count))
 pub record Counted (processors : ℕ) (x : Instructions) : Type 0 where
   pub few : x .count ≤ 40
   pub counted : x .operations ≡ operationCount processors (instructionsOf x)
-  pub bounded : x .operations ≤ 9 * x .count
+  pub bounded : x .operations ≤ 10 * x .count
 
 -- pair k
 unfoldable pub pairAt : Pairs → ℕ → ℕ × ℕ

@@ -5,7 +5,7 @@ use lib.ListN.{length, getD}
 use lib.Dec.{eqb}
 use Rattle.model.specs.Execution as model
 use Rattle.record_decoded.specs.declared.kind.Kind.{Kind}
-use Rattle.record_decoded.specs.declared.kind.Kind.the-variants.{Ld, LdAcq, St, StRel, Mf}
+use Rattle.record_decoded.specs.declared.kind.Kind.the-variants.{Ld, LdAcq, St, StRel, Mf, SemAcq, SemRel}
 use Rattle.record_decoded.specs.declared.kind.Role.{Role}
 use Rattle.record_decoded.specs.declared.kind.Role.the-variants.{R, LV, F, RV}
 use Rattle.record_decoded.specs.declared.kind.Attribute.{Attribute}
@@ -18,6 +18,8 @@ meant LdAcq = model.ld-acq
 meant St = model.st
 meant StRel = model.st-rel
 meant Mf = model.mf
+meant SemAcq = model.sem-acq
+meant SemRel = model.sem-rel
 
 -- a role by its number: R 0, LV 1, F 2, RV_q 3 + q
 abbrev pub roleNumbered : ℕ → model.Role

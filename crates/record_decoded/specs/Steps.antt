@@ -2,9 +2,9 @@
 use Prim.Native.Nat.{ℕ, _+_, _*_, _≤_}
 use mathlib.Core.Path.{_≡_}
 use mathlib.Core.List.{List, [], _∷_, _++_}
-use lib.ListN.{length, drop}
-use Rattle.model.specs.Questions.{Found, no-to, found}
-use Rattle.model.specs.Execution.{Instruction, operationCount}
+use lib.ListN.{length, getD, take, drop}
+use Rattle.model.specs.Questions.{Found, no-to, found, entryLength, moreLength, instructionOf, readInstruction}
+use Rattle.model.specs.Execution.{Attribute, kindOf, Instruction, operationCount}
 use Rattle.record_decoded.specs.Decoded.{instructionsOf, Counted}
 use Rattle.record_decoded.specs.declared.types.Instructions.{Instructions}
 use Rattle.record_decoded.specs.declared.types.Step.{Step}
@@ -35,6 +35,20 @@ pub record Answered {A : Type 0} (walk : Found A) (part : List ℕ) (at size : �
   pub long : (n : ℕ) → asked ≡ Pass n → n ≡ size
   pub ends : (n : ℕ) → asked ≡ Pass n → at + n ≤ length part
 
+-- the bytes of an instruction from `at` on, by its kind
+abbrev pub entryAt : List ℕ → ℕ → List ℕ
+entryAt part at = take (entryLength + moreLength (kindOf (getD part at 0))) (drop at part)
+
+-- they end within the part, and their size is at most 8
+abbrev pub EntryThere : List ℕ → ℕ → Type 0
+EntryThere part at = (at + (entryLength + moreLength (kindOf (getD part at 0))) ≤ length part) × (getD part (at + 2) 0 ≤ 8)
+
+-- The questions of the instruction at `at`. One that passes has a size of at most 8.
+pub record EntryAnswered (processors : ℕ) (lines : List Attribute) (p : ℕ) (done : List Instruction) (part : List ℕ) (at : ℕ) (asked : Asked) : Type 0 where
+  pub answered : Answered (readInstruction processors lines p done (drop at part)) part at (entryLength + moreLength (kindOf (getD part at 0))) asked
+      (instructionOf processors p done (entryAt part at))
+  pub small : (n : ℕ) → asked ≡ Pass n → getD part (at + 2) 0 ≤ 8
+
 -- A walk over instructions, whose arrays stay counted
 pub record InstructionsComeTo (processors : ℕ) (walk : Found (List Instruction)) (part : List ℕ) (step : Step) (value : Instructions) : Type 0 where
   pub walked : ComesTo walk part step (instructionsOf value)
@@ -45,4 +59,4 @@ pub record InstructionMore (processors : ℕ) (x r : Instructions) (i : Instruct
   pub one : r .count ≡ x .count + 1
   pub holds : instructionsOf r ≡ instructionsOf x ++ (i ∷ [])
   pub counted : r .operations ≡ operationCount processors (instructionsOf r)
-  pub bounded : r .operations ≤ 9 * r .count
+  pub bounded : r .operations ≤ 10 * r .count

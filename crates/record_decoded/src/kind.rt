@@ -2,9 +2,10 @@
 ghost use mathlib.Core.Path.{_≡_};
 ghost use Prim.Native.Nat.{ℕ, _<_, _≤_};
 ghost use lib.ListN.{length, getD};
-ghost use Rattle.model.specs.Execution.{F, kindOf, kindRow, attributeOf, isLoad, isStore, isRelease, isFence, roles, remotesAt, numberFrom};
-ghost use Rattle.model.specs.Questions.{question4};
+ghost use Rattle.model.specs.Execution.{F, kindOf, kindRow, attributeOf, isLoad, isStore, isSemaphore, isOnlyStore, isRelease, isFence, roles, remotesAt, numberFrom};
+ghost use Rattle.model.specs.Questions.{question4, writtenFrom};
 ghost use Rattle.record_decoded.specs.Kinds.{meant, RowNumber, roleMeant, roleProcessor, roleNumbered, attributeMeant};
+use crate::types::MORE_LENGTH;
 use crate::types::OperationNo;
 use crate::types::wide16;
 
@@ -14,6 +15,8 @@ pub enum Kind {
     St,
     StRel,
     Mf,
+    SemAcq,
+    SemRel,
 }
 
 // The kind of a number from 0 to LAST_KIND.
@@ -25,12 +28,14 @@ pub fn kind_of(k: u8) -> Kind
         1 => Kind::LdAcq,
         2 => Kind::St,
         3 => Kind::StRel,
-        _ => Kind::Mf,
+        4 => Kind::Mf,
+        5 => Kind::SemAcq,
+        _ => Kind::SemRel,
     }
 }
 
 // The highest number of a kind.
-pub const LAST_KIND: u8 = 4;
+pub const LAST_KIND: u8 = 6;
 
 // The roles of operations as numbers in arrays; RV_q is ROLE_RV + q.
 pub const ROLE_R: u8 = 0;
@@ -82,6 +87,22 @@ const ST_REL: u16 = STORES
 
 const MF: u16 = FENCES + 4 * ROW + 4 * COLUMN + 1 * BEFORE_REMOTES + ROLE_F as u16 * FIRST_ROLE;
 
+const SEM_ACQ: u16 = LOADS
+    + STORES
+    + ACQUIRES
+    + 1 * ROW
+    + 2 * COLUMN
+    + 2 * BEFORE_REMOTES
+    + ROLE_R as u16 * FIRST_ROLE;
+
+const SEM_REL: u16 = LOADS
+    + STORES
+    + RELEASES
+    + 3 * ROW
+    + 3 * COLUMN
+    + 2 * BEFORE_REMOTES
+    + ROLE_R as u16 * FIRST_ROLE;
+
 fn kind_row(k: Kind) -> u16
     ensures { λ r. ⌜ RowNumber r (kindRow (meant k)) ⌝ }
 {
@@ -91,6 +112,8 @@ fn kind_row(k: Kind) -> u16
         Kind::St => ST,
         Kind::StRel => ST_REL,
         Kind::Mf => MF,
+        Kind::SemAcq => SEM_ACQ,
+        Kind::SemRel => SEM_REL,
     }
 }
 
@@ -104,6 +127,27 @@ pub fn is_store(k: Kind) -> bool
     ensures { λ r. ⌜ r ≡ isStore (meant k) ⌝ }
 {
     kind_row(k) / STORES % 2 == 1
+}
+
+// A semaphore: both a load and a store.
+pub fn is_semaphore(k: Kind) -> bool
+    ensures { λ r. ⌜ r ≡ isSemaphore (meant k) ⌝ }
+{
+    if is_load(k) { is_store(k) } else { false }
+}
+
+// A store that is no semaphore.
+pub fn is_only_store(k: Kind) -> bool
+    ensures { λ r. ⌜ r ≡ isOnlyStore (meant k) ⌝ }
+{
+    if is_store(k) { !is_load(k) } else { false }
+}
+
+// The place of the bytes written among the data bytes of an instruction.
+pub fn written_from(k: Kind) -> usize
+    ensures { λ r. ⌜ (r ≡ writtenFrom (meant k)) × (r ≤ 8) ⌝ }
+{
+    if is_semaphore(k) { MORE_LENGTH } else { 0 }
 }
 
 pub fn is_release(k: Kind) -> bool
@@ -174,14 +218,17 @@ fn first_role(k: Kind) -> u8
     (kind_row(k) / FIRST_ROLE) as u8
 }
 
-// The role of an instruction's operation by its place among them.
+// The role of an instruction's operation by its place among them. Where two come before the RVs, the second is LV.
 pub fn role_of(k: Kind, place: u8) -> u8
     requires { ⌜ place ≤ 128 ⌝ }
     ensures { λ r. ⌜ ((processors : ℕ) → place < length (roles processors (meant k)) → roleNumbered r ≡ getD (roles processors (meant k)) place F) ⌝ }
 {
     let before = before_remotes(k) as u8;
-    if place < before {
+    if place == 0 {
         return first_role(k);
+    }
+    if place < before {
+        return ROLE_LV;
     }
     let q = place - before;
     ROLE_RV + q

@@ -9,6 +9,9 @@ pub const LINE_LENGTH: usize = 9;
 
 pub const ENTRY_LENGTH: usize = 11;
 
+// The bytes that a semaphore has more.
+pub const MORE_LENGTH: usize = 8;
+
 pub const PAIR_LENGTH: usize = 2;
 
 // The most processors, lines, instructions and pairs of a record. (The most operations: `Position::LIMIT`.)
@@ -20,8 +23,8 @@ pub const MOST_INSTRUCTIONS: usize = 40;
 
 pub const MOST_PAIRS: u8 = 40;
 
-// The data bytes of an instruction in the arrays.
-pub const DATA_STRIDE: usize = 8;
+// The data bytes of an instruction in the arrays: those seen or written, in a semaphore those seen and then those written.
+pub const DATA_STRIDE: usize = 16;
 
 // The number of an instruction, from 0 through the record.
 pub struct InstructionNo(pub usize);
@@ -88,12 +91,12 @@ pub fn wide16(n: u16) -> usize
     n as usize
 }
 
-// Eight bytes of `from`, from index `start` on, into `to` from index `at` on.
-pub fn copy_eight(to: &mut [u8], at: usize, from: &[u8], start: usize)
-    requires { ⌜ (at + 8 ≤ length (now to)) × (start + 8 ≤ length (now from)) ⌝ }
-    ensures { λ _. ⌜ now (to .exit) ≡ paste (now (to .entry)) at (drop start (now (from .entry))) 8 ⌝ }
+// So many bytes of `from`, from index `start` on, into `to` from index `at` on.
+pub fn copy_bytes(to: &mut [u8], at: usize, from: &[u8], start: usize, n: usize)
+    requires { ⌜ (at + n ≤ length (now to)) × (start + n ≤ length (now from)) ⌝ }
+    ensures { λ _. ⌜ now (to .exit) ≡ paste (now (to .entry)) at (drop start (now (from .entry))) n ⌝ }
 {
-    for j in 0..8 {
+    for j in 0..n {
         to[at + j] = from[start + j];
     }
 }

@@ -19,7 +19,7 @@ use Rattle.record_decoded.specs.Decoded.{decodedLine, linesOf}
 use Rattle.record_decoded.specs.declared.types.Asked.the-variants.{Pass, Fail}
 use Rattle.record_decoded.specs.Steps.{Answered}
 use Rattle.record_decoded.proofs.Items.{item-short, item-there, item-first, byte-short, byte-there, fails, passes}
-use Rattle.record_decoded.proofs.Eights.{drop-take}
+use Rattle.record_decoded.proofs.DataBytes.{drop-take}
 
 module _ (x r : Lines) (part : List ℕ) (at : ℕ) (few : x .count < 8) (here : at ≡ 1 + 9 * x .count)
     (long : length (x .attributes) ≡ 8)

@@ -12,7 +12,7 @@ use borrow.Author.Tests.{lt-ltb, le-ltb, le-leb, lt-leb}
 use Rattle.base.specs.Lists.{below, count}
 use Rattle.base.proofs.Lists.{map-below-more}
 use Rattle.model.specs.Execution as model
-use Rattle.model.specs.Execution.{kindOf, isFence, isStore}
+use Rattle.model.specs.Execution.{kindOf, isFence, isOnlyStore}
 use Rattle.model.specs.Questions.{no-to, found, next, ask, many, question12, question13, question14, readPair, readPairs}
 use Rattle.record_decoded.specs.declared.types.Asked.the-variants.{Pass, Fail}
 use Rattle.record_decoded.specs.declared.types.Instructions.{Instructions}
@@ -37,7 +37,7 @@ module _ (x : Instructions) (m n : ℕ) where
       -- by processors and kinds
       pub pair-is : (first second : model.Kind) → first ≡ kindOf (getD (x .kinds) m 0) → second ≡ kindOf (getD (x .kinds) n 0)
           → question13 (instructionsOf x) m n
-          ≡ (eqb (getD (x .processors) m 0) (getD (x .processors) n 0) && (not (isFence first) && not (isFence second)) && not (isStore first && isStore second))
+          ≡ (eqb (getD (x .processors) m 0) (getD (x .processors) n 0) && (not (isFence first) && not (isFence second)) && not (isOnlyStore first && isOnlyStore second))
       unfolding question13 instructionAt
       pair-is first second e f =
           rw (

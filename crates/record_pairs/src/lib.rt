@@ -7,7 +7,7 @@ ghost use Rattle.model.specs.Questions.{pairLength, question13, question14, rea
 ghost use Rattle.record_decoded.specs.Decoded.{instructionsOf, pairOf, pairsOf};
 ghost use Rattle.record_decoded.specs.Steps.{Answered, ComesTo};
 use record_decoded::kind::is_fence;
-use record_decoded::kind::is_store;
+use record_decoded::kind::is_only_store;
 use record_decoded::kind::kind_of;
 use record_decoded::types::Asked;
 use record_decoded::types::InstructionNo;
@@ -60,8 +60,8 @@ fn pair_passes(is: Instructions, earlier: InstructionNo, later: InstructionNo) -
     if is_fence(second) {
         return false;
     }
-    if is_store(first) {
-        return !is_store(second);
+    if is_only_store(first) {
+        return !is_only_store(second);
     }
     true
 }

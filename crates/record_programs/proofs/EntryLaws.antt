@@ -1,11 +1,11 @@
 -- The questions of an instruction.
 use Prim.Native.Nat.{ℕ, _+_, _-_, _*_, _%_, _≤_, _<_}
 use native.Mathlib.Omega.{arith}
-use mathlib.Core.Path.{_≡_, refl, sym, ap, _∙_}
-use mathlib.Core.Bool.{true, false, or-false}
-use mathlib.Core.List.{List, [], _∷_}
-use lib.ListN.{length, getD, take, drop, length-drop}
-use lib.Seq.{length-take-le, drop-drop}
+use mathlib.Core.Path.{_≡_, refl, sym, ap, ap₂, _∙_}
+use mathlib.Core.Bool.{Bool, true, false, _&&_, or-false}
+use mathlib.Core.List.{List, [], _∷_, _++_}
+use lib.ListN.{length, getD, take, drop, length-take, length-drop, drop-of-length-le}
+use lib.Seq.{length-take-le, take-add, drop-drop}
 use lib.Dec.{eqb, leb, ltb}
 use borrow.Author.Tests.{le-leb, lt-leb, ltb-true, eq-eqb, ne-eqb}
 use Rattle.base.specs.Lists.{all, member}
@@ -13,13 +13,13 @@ use Rattle.base.specs.Below.{allBelow}
 use Rattle.base.proofs.Bools.{eqb-swap}
 use Rattle.base.proofs.Lists.{member-in, all-member}
 use Rattle.base.proofs.Tests.{all-same, all-elements}
-use Rattle.model.specs.Execution.{Kind, Instruction, kindOf, isFence}
+use Rattle.model.specs.Execution.{Kind, Attribute, Instruction, kindOf, isFence}
 use Rattle.model.proofs.Accepted.{size-small}
-use Rattle.model.specs.Questions.{question6, question7, question8, question9, instructionOf, readInstruction, next, ask}
+use Rattle.model.specs.Questions.{no-to, found, question6, question7, question8, question26, question9, moreLength, instructionOf, readInstruction, next, item, ask}
 use Rattle.record_decoded.specs.declared.types.Asked.{Asked}
 use Rattle.record_decoded.specs.declared.types.Asked.the-variants.{Pass, Fail}
-use Rattle.record_decoded.specs.Steps.{Answered}
-use Rattle.record_decoded.proofs.Eights.{drop-take}
+use Rattle.record_decoded.specs.Steps.{EntryAnswered}
+use Rattle.record_decoded.proofs.DataBytes.{drop-take, take-less}
 use Rattle.record_decoded.proofs.Items.{item-short, item-there, item-first, item-byte, fails, passes}
 
 -- question 7
@@ -74,22 +74,39 @@ zeros-by-index part from n room =
     (sym (length-take-le n (drop from part) (omega (arith, length-drop from part))))
     ∙ all-elements (eqb 0) 0 (take n (drop from part))
 
--- question 9, of the bytes past the size
-pub spare-bytes : (part : List ℕ) (at size : ℕ) → size ≤ 8
-    → all (eqb 0) (take (8 - size) (drop (at + 3 + size) part)) ≡ question9 size (drop 3 (take 11 (drop at part)))
-unfolding question9
-spare-bytes part at size h =
-    let m = drop 3 (drop at part) in
-    let eight : 8 ≡ size + (8 - size) = omega arith in
-    ap (all (eqb 0)) (sym (
-    ap (drop size) (drop-take 3 8 (drop at part))
-    ∙ ap (λ (k : ℕ). drop size (take k m)) eight
-    ∙ drop-take size (8 - size) m
-    ∙ ap (λ (l : List ℕ). take (8 - size) (drop size l)) (drop-drop 3 at part)
-    ∙ ap (take (8 - size)) (drop-drop size (at + 3) part)))
+-- those of some bytes that lie past the size
+module _ (part : List ℕ) (from room size : ℕ) where
+  pub none-spare : room < size → true ≡ all (eqb 0) (drop size (take room (drop from part)))
+  unfolding all
+  none-spare h = ap (all (eqb 0)) (sym (drop-of-length-le (take room (drop from part)) {i = size} (omega (arith, length-take room (drop from part)))))
+
+  pub some-spare : size ≤ room → all (eqb 0) (take (room - size) (drop (from + size) part)) ≡ all (eqb 0) (drop size (take room (drop from part)))
+  some-spare h =
+      let both : room ≡ size + (room - size) = omega arith in
+      ap (all (eqb 0)) (sym (
+      ap (λ (k : ℕ). drop size (take k (drop from part))) both
+      ∙ drop-take size (room - size) (drop from part)
+      ∙ ap (take (room - size)) (drop-drop size from part)))
+
+-- question 9
+module _ (part : List ℕ) (from more size : ℕ) where
+  spare-bytes : (all (eqb 0) (drop size (take 8 (drop from part))) && all (eqb 0) (drop size (take more (drop (from + 8) part))))
+      ≡ question9 size (take (8 + more) (drop from part))
+  unfolding question9
+  spare-bytes =
+      ap₂ (λ (l m : List ℕ). all (eqb 0) (drop size l) && all (eqb 0) (drop size m))
+      (sym (take-less 8 (8 + more) (drop from part) (omega arith)))
+      (sym (drop-take 8 more (drop from part) ∙ ap (take more) (drop-drop 8 from part)))
+
+  pub both-spare : all (eqb 0) (drop size (take 8 (drop from part))) ≡ true
+      → all (eqb 0) (drop size (take more (drop (from + 8) part))) ≡ question9 size (take (8 + more) (drop from part))
+  both-spare h = rw (← spare-bytes, h)
+
+  pub some-left : all (eqb 0) (drop size (take 8 (drop from part))) ≡ false → false ≡ question9 size (take (8 + more) (drop from part))
+  some-left h = rw (← spare-bytes, h)
 
 -- the questions in their order, of the bytes from `at` on
-module _ (part : List ℕ) (at lines processors p : ℕ) (done : List Instruction) where
+module _ (part : List ℕ) (at : ℕ) (lines : List Attribute) (processors p : ℕ) (done : List Instruction) where
   abbrev entry : List ℕ
   entry = take 11 (drop at part)
 
@@ -97,11 +114,15 @@ module _ (part : List ℕ) (at lines processors p : ℕ) (done : List Instructio
   size = getD part (at + 2) 0
 
   abbrev pub Asks : Asked → Type 0
-  Asks r = Answered (readInstruction processors lines p done (drop at part)) part at 11 r (instructionOf processors p done entry)
+  Asks r = EntryAnswered processors lines p done part at r
+
+  -- a question that fails
+  refused : {q : ℕ} → readInstruction processors lines p done (drop at part) ≡ no-to q → Asks (Fail q)
+  refused h = record { answered = fails h; small = λ n e. let z : _≡_ {A = ℕ} 0 1 = cc in absurd (omega arith) }
 
   pub entry-short : length part - at < 11 → Asks (Fail 1)
   unfolding readInstruction next
-  entry-short h = fails (rw (item-short 11 at part h))
+  entry-short h = refused (rw (item-short 11 at part h))
 
   module _ (room : at + 11 ≤ length part) where
     byte0 : getD entry 0 0 ≡ getD part at 0
@@ -113,34 +134,58 @@ module _ (part : List ℕ) (at lines processors p : ℕ) (done : List Instructio
     byte2 : getD entry 2 0 ≡ size
     byte2 = item-byte 11 2 at part (omega arith)
 
-    pub entry-kind : 4 < getD part at 0 → Asks (Fail 6)
+    pub entry-kind : 6 < getD part at 0 → Asks (Fail 6)
     unfolding readInstruction next ask question6
-    entry-kind h = fails (rw (item-there 11 at part room, byte0, lt-leb (getD part at 0) 4 h))
+    entry-kind h = refused (rw (item-there 11 at part room, byte0, lt-leb (getD part at 0) 6 h))
 
-    module _ (known : getD part at 0 ≤ 4) (k : Kind) (is : k ≡ kindOf (getD part at 0)) where
+    module _ (known : getD part at 0 ≤ 6) (k : Kind) (is : k ≡ kindOf (getD part at 0)) where
       six : question6 (getD entry 0 0) ≡ true
       unfolding question6
-      six = rw byte0 (le-leb (getD part at 0) 4 known)
+      six = rw byte0 (le-leb (getD part at 0) 6 known)
 
       kind : kindOf (getD entry 0 0) ≡ k
       kind = ap kindOf byte0 ∙ sym is
 
       pub entry-size : question7 k size ≡ false → Asks (Fail 7)
       unfolding readInstruction next ask
-      entry-size h = fails (rw (item-there 11 at part room, six, kind, byte2, h))
+      entry-size h = refused (rw (item-there 11 at part room, six, kind, byte2, h))
 
       module _ (seven : question7 k size ≡ true) where
-        pub entry-address : question8 lines k size (getD part (at + 1) 0) ≡ false → Asks (Fail 8)
+        pub entry-cut : length part - at < 11 + moreLength k → Asks (Fail 1)
         unfolding readInstruction next ask
-        entry-address h = fails (rw (item-there 11 at part room, six, kind, byte2, byte1, seven, h))
+        entry-cut h = refused (rw (item-there 11 at part room, six, kind, byte2, seven, item-short (moreLength k) (at + 11) part (omega arith)))
 
-        module _ (eight : question8 lines k size (getD part (at + 1) 0) ≡ true) where
-          pub entry-data : all (eqb 0) (take (8 - size) (drop (at + 3 + size) part)) ≡ false → Asks (Fail 9)
-          unfolding readInstruction next ask
-          entry-data h =
-              fails (rw (item-there 11 at part room, six, kind, byte2, byte1, seven, eight, ← (spare-bytes part at size (size-small k size seven)), h))
+        module _ (whole : at + (11 + moreLength k) ≤ length part) where
+          further : item (moreLength k) (drop (at + 11) part) ≡ found (take (moreLength k) (drop (at + 11) part)) (drop (at + 11 + moreLength k) part)
+          further = item-there (moreLength k) (at + 11) part (omega arith)
 
-          pub entry-passes : all (eqb 0) (take (8 - size) (drop (at + 3 + size) part)) ≡ true → Asks (Pass 11)
+          pub entry-address : question8 (length lines) k size (getD part (at + 1) 0) ≡ false → Asks (Fail 8)
           unfolding readInstruction next ask
-          entry-passes h =
-              passes (rw (item-there 11 at part room, six, kind, byte2, byte1, seven, eight, ← (spare-bytes part at size (size-small k size seven)), h)) room
+          entry-address h = refused (rw (item-there 11 at part room, six, kind, byte2, byte1, seven, further, h))
+
+          module _ (eight : question8 (length lines) k size (getD part (at + 1) 0) ≡ true) where
+            pub entry-line : question26 lines k (getD part (at + 1) 0) ≡ false → Asks (Fail 26)
+            unfolding readInstruction next ask
+            entry-line h = refused (rw (item-there 11 at part room, six, kind, byte2, byte1, seven, further, eight, h))
+
+            module _ (wb : question26 lines k (getD part (at + 1) 0) ≡ true) where
+              -- both items together
+              joined : entry ++ take (moreLength k) (drop (at + 11) part) ≡ take (11 + moreLength k) (drop at part)
+              joined = sym (take-add 11 (moreLength k) (drop at part) ∙ ap (λ (l : List ℕ). entry ++ take (moreLength k) l) (drop-drop 11 at part))
+
+              data-there : drop 3 (entry ++ take (moreLength k) (drop (at + 11) part)) ≡ take (8 + moreLength k) (drop (at + 3) part)
+              data-there =
+                  let eleven : 11 + moreLength k ≡ 3 + (8 + moreLength k) = omega arith in
+                  ap (drop 3) joined ∙ ap (λ (n : ℕ). drop 3 (take n (drop at part))) eleven ∙ drop-take 3 (8 + moreLength k) (drop at part) ∙ ap (take (8 + moreLength k)) (drop-drop 3 at part)
+
+              pub entry-data : question9 size (take (8 + moreLength k) (drop (at + 3) part)) ≡ false → Asks (Fail 9)
+              unfolding readInstruction next ask
+              entry-data h = refused (rw (item-there 11 at part room, six, kind, byte2, byte1, seven, further, eight, wb, data-there, h))
+
+              pub entry-passes : question9 size (take (8 + moreLength k) (drop (at + 3) part)) ≡ true → Asks (Pass (11 + moreLength k))
+              unfolding readInstruction next ask
+              entry-passes h = record {
+                answered = rw (← is) (passes (rw (item-there 11 at part room, six, kind, byte2, byte1, seven, further, eight, wb, data-there, h, joined)
+                    (ap (λ (n : ℕ). found (instructionOf processors p done (take (11 + moreLength k) (drop at part))) (drop n part)) (let z : at + 11 + moreLength k ≡ at + (11 + moreLength k) = omega arith in z))) whole);
+                small = λ n e. size-small k size seven;
+              }

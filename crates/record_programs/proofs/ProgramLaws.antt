@@ -7,7 +7,7 @@ use mathlib.Core.List.{List, []}
 use lib.ListN.{length, getD, drop, length-drop}
 use lib.Seq.{drop-drop}
 use borrow.Author.Tests.{le-leb, lt-leb}
-use Rattle.model.specs.Execution.{Instruction, operationCount}
+use Rattle.model.specs.Execution.{Attribute, Instruction, operationCount}
 use Rattle.model.specs.Questions.{Found, no-to, next, ask, many, question5, question11, readInstruction, readProgram, readPrograms, readInstructions, pure, _>>_}
 use Rattle.record_decoded.specs.declared.types.Step.{Step}
 use Rattle.record_decoded.specs.declared.types.Step.the-variants.{Refused, Next}
@@ -16,7 +16,7 @@ use Rattle.record_decoded.specs.Decoded.{instructionsOf, Counted}
 use Rattle.record_decoded.specs.Steps.{foundBy, ComesTo}
 use Rattle.record_decoded.proofs.Items.{byte-short, byte-there}
 
-module _ (processors lines p : ℕ) (done : List Instruction) (part : List ℕ) where
+module _ (processors : ℕ) (lines : List Attribute) (p : ℕ) (done : List Instruction) (part : List ℕ) where
   pub program-short : length part < 1 → readProgram processors lines p done part ≡ no-to 1
   unfolding readProgram next
   program-short h = rw (byte-short part h)
@@ -41,19 +41,19 @@ counted-none {processors} {x} c o e = record {
 }
 
 -- The loop over the programs: what is left to read, from processor p on and index `at` on, decides the whole.
-pub record Programs (processors lines : ℕ) (part : List ℕ) (p at : ℕ) (done : List Instruction) : Type 0 where
+pub record Programs (processors : ℕ) (lines : List Attribute) (part : List ℕ) (p at : ℕ) (done : List Instruction) : Type 0 where
   pub turns : p ≤ processors
   pub room : at ≤ length part
   pub decides : readPrograms processors lines 0 processors [] part ≡ readPrograms processors lines p (processors - p) done (drop at part)
 
-pub programs-start : {processors lines : ℕ} {part : List ℕ} {done : List Instruction} → done ≡ [] → Programs processors lines part 0 0 done
+pub programs-start : {processors : ℕ} {lines : List Attribute} {part : List ℕ} {done : List Instruction} → done ≡ [] → Programs processors lines part 0 0 done
 programs-start {processors} {lines} {part} {done} e = record {
   turns = omega arith;
   room = omega arith;
   decides = ap₂ (λ (k : ℕ) (l : List Instruction). readPrograms processors lines 0 k l part) (let z : processors ≡ processors - 0 = omega arith in z) (sym e);
 }
 
-module _ {processors lines p at : ℕ} {part : List ℕ} {done : List Instruction} (inv : Programs processors lines part p at done) where
+module _ {processors : ℕ} {lines : List Attribute} {p at : ℕ} {part : List ℕ} {done : List Instruction} (inv : Programs processors lines part p at done) where
   module _ {s : List ℕ} {step : Step} {value : List Instruction} (more : p < processors) (here : s ≡ drop at part)
       (walked : ComesTo (readProgram processors lines p done s) s step value) where
     turn : readPrograms processors lines 0 processors [] part ≡ next (foundBy s step value) (readPrograms processors lines (suc p) (processors - (p + 1)))
@@ -88,7 +88,7 @@ module _ {processors lines p at : ℕ} {part : List ℕ} {done : List Instructio
   }
 
 -- question 11, after the last program
-module _ (processors lines : ℕ) (part : List ℕ) {step : Step} {value : List Instruction}
+module _ (processors : ℕ) (lines : List Attribute) (part : List ℕ) {step : Step} {value : List Instruction}
     (walked : ComesTo (readPrograms processors lines 0 processors [] part) part step value) where
   after : readInstructions processors lines part
       ≡ next (foundBy part step value) (λ is. _>>_ (ask 11 (question11 (operationCount processors is))) (pure is))

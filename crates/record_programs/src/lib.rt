@@ -7,23 +7,28 @@ ghost use lib.ListN.{length, take, drop};
 ghost use lib.Dec.{eqb};
 ghost use Rattle.base.specs.Lists.{all};
 ghost use Rattle.model.specs.Execution.{Instruction, operationCount};
-ghost use Rattle.model.specs.Questions.{entryLength, question7, question8, instructionOf, readInstruction, readProgram, readPrograms, readInstructions, many};
+ghost use Rattle.model.specs.Questions.{moreLength, question7, question8, question9, question26, instructionOf, readInstruction, readProgram, readPrograms, readInstructions, many};
 ghost use Rattle.record_decoded.specs.Kinds.{meant};
-ghost use Rattle.record_decoded.specs.Decoded.{instructionsOf, Counted};
-ghost use Rattle.record_decoded.specs.Steps.{Answered, InstructionsComeTo, InstructionMore};
+ghost use Rattle.record_decoded.specs.Decoded.{attributesOf, instructionsOf, Counted};
+ghost use Rattle.record_decoded.specs.Steps.{entryAt, EntryThere, EntryAnswered, InstructionsComeTo, InstructionMore};
 use record_decoded::kind::Kind;
 use record_decoded::kind::LAST_KIND;
 use record_decoded::kind::is_fence;
+use record_decoded::kind::is_semaphore;
 use record_decoded::kind::kind_of;
 use record_decoded::kind::operation_count;
+use record_decoded::memory::attribute_in;
+use record_decoded::memory::is_wb;
 use record_decoded::position::Position;
 use record_decoded::types::Asked;
 use record_decoded::types::DATA_STRIDE;
 use record_decoded::types::ENTRY_LENGTH;
 use record_decoded::types::Instructions;
+use record_decoded::types::Lines;
+use record_decoded::types::MORE_LENGTH;
 use record_decoded::types::MOST_INSTRUCTIONS;
 use record_decoded::types::Step;
-use record_decoded::types::copy_eight;
+use record_decoded::types::copy_bytes;
 use record_decoded::types::wide;
 
 pub struct InstructionsRead {
@@ -62,6 +67,25 @@ fn size_passes(k: Kind, size: u8) -> bool
     }
 }
 
+// Question 26.
+fn line_passes(lines: Lines, k: Kind, address: u8) -> bool
+    requires { ⌜ lines .count ≤ 8 ⌝ }
+    ensures { λ r. ⌜ r ≡ question26 (attributesOf lines) (meant k) address ⌝ }
+{
+    if is_semaphore(k) {
+        is_wb(attribute_in(lines, address))
+    } else {
+        true
+    }
+}
+
+// The bytes that an instruction has after the first eleven.
+fn more_length(k: Kind) -> usize
+    ensures { λ r. ⌜ (r ≡ moreLength (meant k)) × (r ≤ 8) ⌝ }
+{
+    if is_semaphore(k) { MORE_LENGTH } else { 0 }
+}
+
 // Question 8, of a size that passes question 7.
 fn address_passes(lines: usize, k: Kind, size: u8, address: u8) -> bool
     requires { ⌜ (lines ≤ 8) × (question7 (meant k) size ≡ true) ⌝ }
@@ -90,10 +114,33 @@ fn all_zero(part: &[u8], from: usize, n: usize) -> bool
     true
 }
 
+// Whether those of `room` bytes from `from` on that lie past the size are zero.
+fn spare_zero(part: &[u8], from: usize, room: usize, size: usize) -> bool
+    requires { ⌜ from + room ≤ length (now part) ⌝ }
+    ensures { λ r. ⌜ r ≡ all (eqb 0) (drop size (take room (drop from (now (part .entry))))) ⌝ }
+{
+    if room < size {
+        return true;
+    }
+    all_zero(part, from + size, room - size)
+}
+
+// Question 9, of the eight data bytes from `from` on and of so many more.
+fn data_passes(part: &[u8], from: usize, more: usize, size: usize) -> bool
+    requires { ⌜ from + (8 + more) ≤ length (now part) ⌝ }
+    ensures { λ r. ⌜ r ≡ question9 size (take (8 + more) (drop from (now (part .entry)))) ⌝ }
+{
+    if spare_zero(part, from, 8, size) {
+        spare_zero(part, from + 8, more, size)
+    } else {
+        false
+    }
+}
+
 // The questions of the instruction at `at`.
-fn instruction_question(part: &[u8], at: usize, lines: usize) -> Asked
-    requires { ⌜ (at ≤ length (now part)) × (lines ≤ 8) ⌝ }
-    ensures { λ r. ⌜ ((processors p : ℕ) (done : List Instruction) → Answered (readInstruction processors lines p done (drop at (now (part .entry)))) (now (part .entry)) at entryLength r (instructionOf processors p done (take entryLength (drop at (now (part .entry)))))) ⌝ }
+fn instruction_question(part: &[u8], at: usize, lines: Lines) -> Asked
+    requires { ⌜ (at ≤ length (now part)) × (lines .count ≤ 8) ⌝ }
+    ensures { λ r. ⌜ ((processors p : ℕ) (done : List Instruction) → EntryAnswered processors (attributesOf lines) p done (now (part .entry)) at r) ⌝ }
 {
     if part.len() - at < ENTRY_LENGTH {
         return Asked::Fail(1);
@@ -107,18 +154,25 @@ fn instruction_question(part: &[u8], at: usize, lines: usize) -> Asked
     if !size_passes(kind, size) {
         return Asked::Fail(7);
     }
+    let more = more_length(kind);
+    let length = ENTRY_LENGTH + more;
+    if part.len() - at < length {
+        return Asked::Fail(1);
+    }
     let address = part[at + 1];
-    if !address_passes(lines, kind, size, address) {
+    if !address_passes(lines.count, kind, size, address) {
         return Asked::Fail(8);
     }
-    let s = size as usize;
-    if !all_zero(part, at + 3 + s, 8 - s) {
+    if !line_passes(lines, kind, address) {
+        return Asked::Fail(26);
+    }
+    if !data_passes(part, at + 3, more, size as usize) {
         return Asked::Fail(9);
     }
-    Asked::Pass(ENTRY_LENGTH)
+    Asked::Pass(length)
 }
 
-// One instruction more, of processor p, from the eleven bytes at `at`.
+// One instruction more, of processor p, from its bytes at `at`.
 fn with_instruction(
     x: Instructions,
     part: &[u8],
@@ -126,8 +180,8 @@ fn with_instruction(
     processors: usize,
     p: u8,
 ) -> Instructions
-    requires { ⌜ (x .count < 40) × (at + entryLength ≤ length (now part)) × (processors ≤ 8) × (x .operations ≤ 9 * x .count) × (x .operations ≡ operationCount processors (instructionsOf x)) ⌝ }
-    ensures { λ r. ⌜ InstructionMore processors x r (instructionOf processors p (instructionsOf x) (take entryLength (drop at (now (part .entry))))) ⌝ }
+    requires { ⌜ (x .count < 40) × EntryThere (now part) at × (processors ≤ 8) × (x .operations ≤ 10 * x .count) × (x .operations ≡ operationCount processors (instructionsOf x)) ⌝ }
+    ensures { λ r. ⌜ InstructionMore processors x r (instructionOf processors p (instructionsOf x) (entryAt (now (part .entry)) at)) ⌝ }
 {
     let i = x.count;
     let mut processor = x.processors;
@@ -143,7 +197,8 @@ fn with_instruction(
     addresses[i] = part[at + 1];
     sizes[i] = part[at + 2];
     firsts[i] = first as u16;
-    copy_eight(&mut bytes, DATA_STRIDE * i, part, at + 3);
+    let data = 8 + more_length(kind);
+    copy_bytes(&mut bytes, DATA_STRIDE * i, part, at + 3, data);
     let count = i + 1;
     let operations = first + operation_count(kind, processors);
     Instructions {
@@ -162,14 +217,14 @@ fn with_instruction(
 fn program_entries(
     part: &[u8],
     n: u8,
-    lines: usize,
+    lines: Lines,
     processors: usize,
     p: u8,
     is: Instructions,
 ) -> InstructionsRead
-    requires { ⌜ (1 ≤ length (now part)) × (lines ≤ 8) × (processors ≤ 8) × (is .count + n ≤ 40) ⌝ }
+    requires { ⌜ (1 ≤ length (now part)) × (lines .count ≤ 8) × (processors ≤ 8) × (is .count + n ≤ 40) ⌝ }
     requires { ⌜ Counted processors is ⌝ }
-    ensures { λ r. ⌜ InstructionsComeTo processors (many (readInstruction processors lines p) n (instructionsOf is) (drop 1 (now (part .entry)))) (now (part .entry)) (r .step) (r .instructions) ⌝ }
+    ensures { λ r. ⌜ InstructionsComeTo processors (many (readInstruction processors (attributesOf lines) p) n (instructionsOf is) (drop 1 (now (part .entry)))) (now (part .entry)) (r .step) (r .instructions) ⌝ }
 {
     let mut instructions = is;
     let mut at = 1;
@@ -197,14 +252,14 @@ fn program_entries(
 // The program of processor p, as the part of the record that starts at its count.
 fn read_program(
     part: &[u8],
-    lines: usize,
+    lines: Lines,
     processors: usize,
     p: u8,
     is: Instructions,
 ) -> InstructionsRead
-    requires { ⌜ (lines ≤ 8) × (processors ≤ 8) ⌝ }
+    requires { ⌜ (lines .count ≤ 8) × (processors ≤ 8) ⌝ }
     requires { ⌜ Counted processors is ⌝ }
-    ensures { λ r. ⌜ InstructionsComeTo processors (readProgram processors lines p (instructionsOf is) (now (part .entry))) (now (part .entry)) (r .step) (r .instructions) ⌝ }
+    ensures { λ r. ⌜ InstructionsComeTo processors (readProgram processors (attributesOf lines) p (instructionsOf is) (now (part .entry))) (now (part .entry)) (r .step) (r .instructions) ⌝ }
 {
     if part.len() < 1 {
         return InstructionsRead {
@@ -224,9 +279,9 @@ fn read_program(
 }
 
 // The programs of all processors, one after the other.
-fn read_programs(part: &[u8], lines: usize, processors: usize) -> InstructionsRead
-    requires { ⌜ (lines ≤ 8) × (processors ≤ 8) ⌝ }
-    ensures { λ r. ⌜ InstructionsComeTo processors (readPrograms processors lines 0 processors [] (now (part .entry))) (now (part .entry)) (r .step) (r .instructions) ⌝ }
+fn read_programs(part: &[u8], lines: Lines, processors: usize) -> InstructionsRead
+    requires { ⌜ (lines .count ≤ 8) × (processors ≤ 8) ⌝ }
+    ensures { λ r. ⌜ InstructionsComeTo processors (readPrograms processors (attributesOf lines) 0 processors [] (now (part .entry))) (now (part .entry)) (r .step) (r .instructions) ⌝ }
 {
     let mut instructions = no_instructions();
     let mut at = 0;
@@ -253,9 +308,9 @@ fn read_programs(part: &[u8], lines: usize, processors: usize) -> InstructionsRe
 }
 
 // The programs, and question 11 after the last.
-pub fn read_instructions(part: &[u8], lines: usize, processors: usize) -> InstructionsRead
-    requires { ⌜ (lines ≤ 8) × (processors ≤ 8) ⌝ }
-    ensures { λ r. ⌜ InstructionsComeTo processors (readInstructions processors lines (now (part .entry))) (now (part .entry)) (r .step) (r .instructions) ⌝ }
+pub fn read_instructions(part: &[u8], lines: Lines, processors: usize) -> InstructionsRead
+    requires { ⌜ (lines .count ≤ 8) × (processors ≤ 8) ⌝ }
+    ensures { λ r. ⌜ InstructionsComeTo processors (readInstructions processors (attributesOf lines) (now (part .entry))) (now (part .entry)) (r .step) (r .instructions) ⌝ }
 {
     let read = read_programs(part, lines, processors);
     let step = read.step;

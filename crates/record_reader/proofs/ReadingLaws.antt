@@ -8,7 +8,7 @@ use lib.ListN.{length, getD, drop, length-drop, drop-of-length-le}
 use lib.Dec.{leb}
 use borrow.Author.Tests.{le-leb, lt-leb}
 use Rattle.model.specs.Execution as model
-use Rattle.model.specs.Questions.{Found, no-to, found, Reader, next, ask, question2, question15, readLines, readInstructions, readPairs, readRecord}
+use Rattle.model.specs.Questions.{Found, no-to, found, Reader, next, ask, question2, question15, readLines, lineAttributes, readInstructions, readPairs, readRecord}
 use Rattle.model.specs.Calls.{says, refuses, answerOf, readAll}
 use Rattle.record_decoded.specs.declared.types.Step.{Step}
 use Rattle.record_decoded.specs.declared.types.Step.the-variants.{Refused, Next}
@@ -57,10 +57,10 @@ module _ (processors : ℕ) (lines : List model.Line) (is : List model.Instructi
     end-here h = ap answerOf (section-read walked _ e) ∙ rw (end-reached k part h)
 
 -- the walk after the lines
-module _ (processors : ℕ) (lines : List model.Line) (count : ℕ) (counts : length lines ≡ count) (part : List ℕ) {step : Step} {is : List model.Instruction}
-    (walked : ComesTo (readInstructions processors count part) part step is) where
-  there : ComesTo (readInstructions processors (length lines) part) part step is
-  there = subst (λ (n : ℕ). ComesTo (readInstructions processors n part) part step is) (sym counts) walked
+module _ (processors : ℕ) (lines : List model.Line) (attributes : List model.Attribute) (same : lineAttributes lines ≡ attributes) (part : List ℕ) {step : Step} {is : List model.Instruction}
+    (walked : ComesTo (readInstructions processors attributes part) part step is) where
+  there : ComesTo (readInstructions processors (lineAttributes lines) part) part step is
+  there = subst (λ (l : List model.Attribute). ComesTo (readInstructions processors l part) part step is) (sym same) walked
 
   pub rest-fails : {q : ℕ} → step ≡ Refused q → answerOf (afterLines processors lines part) ≡ refuses q
   unfolding afterLines answerOf

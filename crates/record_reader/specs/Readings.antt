@@ -1,9 +1,8 @@
 -- What the reader of a record answers, and the walk over what follows the lines and the programs.
 use Prim.Native.Nat.{ℕ}
 use mathlib.Core.List.{List}
-use lib.ListN.{length}
 use Rattle.model.specs.Execution as model
-use Rattle.model.specs.Questions.{Reader, pure, _>>=_, _>>_, question15, readInstructions, readPairs}
+use Rattle.model.specs.Questions.{Reader, pure, _>>=_, _>>_, question15, lineAttributes, readInstructions, readPairs}
 use Rattle.model.specs.Calls as calls
 use Rattle.record_reader.specs.declared.reader.Answer.{Answer}
 use Rattle.record_reader.specs.declared.reader.Answer.the-variants.{Accepted, Refused}
@@ -28,5 +27,5 @@ afterInstructions processors lines is = do
 
 unfoldable pub afterLines : ℕ → List model.Line → Reader model.Execution
 afterLines processors lines = do
-  is ← readInstructions processors (length lines)
+  is ← readInstructions processors (lineAttributes lines)
   afterInstructions processors lines is

@@ -77,8 +77,7 @@ fn read_rest(part: &[u8], processors: usize, lines: Lines) -> Reading
     requires { ⌜ (processors ≤ 8) × (lines .count ≤ 8) ⌝ }
     ensures { λ r. ⌜ ((bytes : List ℕ) → answerOf (afterLines processors (linesOf (drop 1 bytes) lines) (now (part .entry))) ≡ readingOf bytes r) ⌝ }
 {
-    let count = lines.count;
-    let read = read_instructions(part, count, processors);
+    let read = read_instructions(part, lines, processors);
     let step = read.step;
     let instructions = read.instructions;
     match step {

@@ -2,17 +2,19 @@
 use Prim.Native.Nat.{ℕ, _≤_, _<_}
 use native.Mathlib.Omega.{arith}
 use mathlib.Core.Path.{_≡_, sym, ap, _∙_, subst}
+use mathlib.Core.Bool.{true}
 use mathlib.Core.List.{List, List·Memᴰ, Memᴰ·map, Memᴰ·of-map}
 use lib.ListN.{length, getD, drop, length-map}
 use Rattle.base.specs.Lists.{for, below}
 use Rattle.base.proofs.Lists.{length-count, in-below, of-below}
 use Rattle.model.specs.Execution as model
 use Rattle.model.specs.Execution.{roles, numberOf, operationCount, operations, operationsOf, allOperations}
+use Rattle.model.specs.Questions.{question26}
 use Rattle.model.specs.Accepted.{Consecutive, Sound, Each, Accepted}
 use Rattle.record_decoded.specs.declared.types.Execution.{Execution}
 use Rattle.record_decoded.specs.Kinds.{roleNumbered}
 use Rattle.record_decoded.specs.Decoded.{linesOf, pairAt, pairsOf, instructionAt, instructionsOf, executionOf}
-use Rattle.record_decoded.proofs.Arrays.{lines-length, instructions-length}
+use Rattle.record_decoded.proofs.Arrays.{lines-length, attributes-are, instructions-length}
 use Rattle.relation_links.specs.declared.operations.Operations.{Operations}
 use Rattle.relation_marks.specs.Marks.{marksBetween, markAt}
 use Rattle.relation_links.specs.Operations.{operationAt, tableOf, Tabled}
@@ -107,6 +109,8 @@ accepted-anyhow bytes x a others = record {
   pairs-few = a .pairs-few;
   consecutive = a .consecutive;
   sound = subst (λ (n : ℕ). Each (Sound (x .processors) n) (instructionsOf (x .instructions))) same (a .sound);
+  semaphores-passed = subst (λ (l : List model.Attribute). Each (λ i. question26 l (i .kind) (i .address) ≡ true) (instructionsOf (x .instructions)))
+      (attributes-are (drop 1 bytes) (x .lines) ∙ sym (attributes-are (drop 1 others) (x .lines))) (a .semaphores-passed);
   rising = a .rising;
 }
   where

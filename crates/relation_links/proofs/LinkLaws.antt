@@ -12,13 +12,13 @@ use Rattle.base.specs.Below.{anyBelow}
 use Rattle.base.proofs.Lists.{of-for}
 use Rattle.base.proofs.Bits.{bit-packed}
 use Rattle.model.specs.Execution.{Kind, isLoad, isStore, isAcquire, isFence, isRelease, Instruction, Execution, Role, R, LV, F, RV, roles, numberOf, Operation, operationsOf, allOperations, hasRoleR, hasRoleLV, hasRoleF, hasRoleRV}
-use Rattle.model.specs.Rules.{sameVisibility, earlier, link1, link2, link3, link4, link5, link6, link7, paired, link8, link13, linked}
+use Rattle.model.specs.Rules.{sameVisibility, earlier, link1, link2, link3, link4, link5, link6, link7, paired, link8, link13, link15, linked}
 use Rattle.model.proofs.Roles.{of-roles, R-load, LV-store, RV-store, load-no-fence, store-no-fence}
 use Rattle.model.specs.Accepted.{Consecutive}
 use Rattle.model.proofs.Numbers.{one-numbered}
 use Rattle.model.proofs.ProgramOrder.{marks-rule2, marks-rule3, marks-rule4}
 use Rattle.relation_marks.specs.Marks.{hasMark, earlierOf, givenPair, marksOf, marksBetween}
-use Rattle.relation_links.specs.Links.{linkOf, ruleMark, rolesLink, linkBy}
+use Rattle.relation_links.specs.Links.{linkOf, ruleMark, endRole, rolesLink, linkBy}
 use Rattle.relation_links.proofs.RoleLaws.{roles-past}
 
 -- an operation has a role of its instruction's kind
@@ -139,14 +139,20 @@ module _ (e : Execution) (a b : Operation) where
 
   means-8 : linkBy 8 between (a .instruction .processor) (a .role) (b .role) ≡ link8 e a b
   unfolding linkBy ruleMark rolesLink marksOf givenPair paired link8
-  means-8 = asks 5 _ _ refl
+  means-8 =
+      asks 5 _ _ refl
+      ∙ ap₂ (λ (s t : Bool). paired e a b && (endRole s (a .role) && endRole t (b .role))) (marked 11) (marked 12)
 
   means-13 : linkBy 13 between (a .instruction .processor) (a .role) (b .role) ≡ link13 e a b
   unfolding linkBy ruleMark rolesLink marksOf earlierOf link13
   means-13 = asks 6 _ _ refl
 
+  means-15 : linkBy 15 between (a .instruction .processor) (a .role) (b .role) ≡ link15 a b
+  unfolding linkBy ruleMark rolesLink marksOf link15
+  means-15 = asks 0 _ _ refl
+
   -- a rule without roles has no link
-  means-none : (rule : ℕ) → false ≡ rolesLink rule (a .instruction .processor) (a .role) (b .role)
+  means-none : (rule : ℕ) → false ≡ rolesLink rule between (a .instruction .processor) (a .role) (b .role)
       → linkBy rule between (a .instruction .processor) (a .role) (b .role) ≡ false
   unfolding linkBy
   means-none rule h = ap (λ (t : Bool). hasMark between (ruleMark rule) && t) (sym h) ∙ and-false (hasMark between (ruleMark rule))
@@ -167,7 +173,7 @@ abbrev _⨾_ : {A B : Type 0} → A → B → A × B
 a ⨾ b = (a, b)
 
 -- past the table no rule has a link
-past-links : (e : Execution) (rule : ℕ) (a b : Operation) → 14 ≤ rule → linkOf e rule a b ≡ false
+past-links : (e : Execution) (rule : ℕ) (a b : Operation) → 16 ≤ rule → linkOf e rule a b ≡ false
 unfolding linkOf
 past-links e rule a b h = rw List·getD-eq-default
 
@@ -176,13 +182,13 @@ pub link-means : (e : Execution) (rule p : ℕ) (a b : Operation) → List·Mem�
     → (a .instruction .number ≡ b .instruction .number → a .instruction .processor ≡ b .instruction .processor)
     → linkBy rule (marksBetween e (a .instruction) (b .instruction)) (a .instruction .processor) (a .role) (b .role) ≡ linkOf e rule a b
 unfolding linkOf rolesLink
-link-means e rule p a b m n one = go (decLt rule 14)
+link-means e rule p a b m n one = go (decLt rule 16)
   where
     C : ℕ → Type 0
     C k = linkBy k (marksBetween e (a .instruction) (b .instruction)) (a .instruction .processor) (a .role) (b .role) ≡ linkOf e k a b
 
-    go : Dec (rule < 14) → C rule
-    go (yes h) = first-at 14 C (
+    go : Dec (rule < 16) → C rule
+    go (yes h) = first-at 16 C (
         means-none e a b 0 refl
         ⨾ means-1 e a b one
         ⨾ means-2 e a b
@@ -197,10 +203,12 @@ link-means e rule p a b m n one = go (decLt rule 14)
         ⨾ means-none e a b 11 refl
         ⨾ means-none e a b 12 refl
         ⨾ means-13 e a b
+        ⨾ means-none e a b 14 refl
+        ⨾ means-15 e a b
         ⨾ tt) rule h
-    go (no h) = means-none e a b rule (roles-past rule (a .instruction .processor) (a .role) (b .role) (omega arith)) ∙ sym (past-links e rule a b (omega arith))
+    go (no h) = means-none e a b rule (roles-past rule (marksBetween e (a .instruction) (b .instruction)) (a .instruction .processor) (a .role) (b .role) (omega arith)) ∙ sym (past-links e rule a b (omega arith))
 
 -- some rule links a to b
-pub linked-by : (e : Execution) (a b : Operation) → linked e a b ≡ (anyBelow 14 (λ rule. linkOf e rule a b))
+pub linked-by : (e : Execution) (a b : Operation) → linked e a b ≡ (anyBelow 16 (λ rule. linkOf e rule a b))
 unfolding linked linkOf anyBelow
 linked-by e a b = simp or-false

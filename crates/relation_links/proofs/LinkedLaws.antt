@@ -25,9 +25,9 @@ use Rattle.relation_links.specs.Linked.{linkedBy, linkedAt}
 
 module _ (m p : ℕ) (a b : Role) where
   -- a rule that links
-  pub rule-links : (rule : ℕ) → rule < 14 → linkBy rule m p a b ≡ true → true ≡ linkedBy m p a b
+  pub rule-links : (rule : ℕ) → rule < 16 → linkBy rule m p a b ≡ true → true ≡ linkedBy m p a b
   unfolding linkedBy
-  rule-links rule l h = sym (any-passes (λ r. linkBy r m p a b) 14 rule l h)
+  rule-links rule l h = sym (any-passes (λ r. linkBy r m p a b) 16 rule l h)
 
   -- rules without a link
   rule-0 : linkBy 0 m p a b ≡ false
@@ -50,12 +50,16 @@ module _ (m p : ℕ) (a b : Role) where
   unfolding linkBy rolesLink
   rule-12 = and-false (hasMark m (ruleMark 12))
 
-  -- where rules 1 to 8 do not link, rule 13 decides
+  rule-14 : linkBy 14 m p a b ≡ false
+  unfolding linkBy rolesLink
+  rule-14 = and-false (hasMark m (ruleMark 14))
+
+  -- where rules 1 to 8 and 13 do not link, rule 15 decides
   pub last-rule : linkBy 1 m p a b ≡ false → linkBy 2 m p a b ≡ false → linkBy 3 m p a b ≡ false → linkBy 4 m p a b ≡ false
-      → linkBy 5 m p a b ≡ false → linkBy 6 m p a b ≡ false → linkBy 7 m p a b ≡ false → linkBy 8 m p a b ≡ false
-      → linkBy 13 m p a b ≡ linkedBy m p a b
+      → linkBy 5 m p a b ≡ false → linkBy 6 m p a b ≡ false → linkBy 7 m p a b ≡ false → linkBy 8 m p a b ≡ false → linkBy 13 m p a b ≡ false
+      → linkBy 15 m p a b ≡ linkedBy m p a b
   unfolding linkedBy anyBelow
-  last-rule h1 h2 h3 h4 h5 h6 h7 h8 = sym (rw (rule-0, h1, h2, h3, h4, h5, h6, h7, h8, rule-9, rule-10, rule-11, rule-12) refl)
+  last-rule h1 h2 h3 h4 h5 h6 h7 h8 h13 = sym (rw (rule-0, h1, h2, h3, h4, h5, h6, h7, h8, rule-9, rule-10, rule-11, rule-12, h13, rule-14) refl)
 
   -- without a mark below 128 no rule links
   pub no-mark : m % 128 ≡ 0 → false ≡ linkedBy m p a b
@@ -96,14 +100,18 @@ module _ (m p q : ℕ) (b : Role) where
   unfolding linkBy rolesLink
   remote-13 = and-false (hasMark m (ruleMark 13))
 
+  remote-15 : linkBy 15 m p (RV q) b ≡ false
+  unfolding linkBy rolesLink
+  remote-15 = and-false (hasMark m (ruleMark 15))
+
 pub from-remote : (m p k : ℕ) (b : Role) → 3 ≤ k → linkBy 1 m p (roleNumbered k) b ≡ false → linkBy 3 m p (roleNumbered k) b ≡ false
     → linkBy 4 m p (roleNumbered k) b ≡ false → false ≡ linkedBy m p (roleNumbered k) b
 from-remote m p zero b l h1 h3 h4 = absurd (omega arith)
 from-remote m p (suc zero) b l h1 h3 h4 = absurd (omega arith)
 from-remote m p (suc (suc zero)) b l h1 h3 h4 = absurd (omega arith)
 from-remote m p (suc (suc (suc q))) b l h1 h3 h4 =
-    sym (remote-13 m p q b)
-    ∙ last-rule m p (RV q) b h1 (remote-2 m p q b) h3 h4 (remote-5 m p q b) (remote-6 m p q b) (remote-7 m p q b) (remote-8 m p q b)
+    sym (remote-15 m p q b)
+    ∙ last-rule m p (RV q) b h1 (remote-2 m p q b) h3 h4 (remote-5 m p q b) (remote-6 m p q b) (remote-7 m p q b) (remote-8 m p q b) (remote-13 m p q b)
 
 -- the tables of an execution
 -- the tables' test of two operations is whether some rule links them
@@ -112,7 +120,7 @@ pub linked-means : {bytes : List ℕ} {x : Execution} {t : Operations} {marks : 
     → linkedAt (x .instructions) t marks a o ≡ linked (executionOf bytes x) (operationAt (x .instructions) t a) (operationAt (x .instructions) t o)
 unfolding linkedAt linkedBy operationAt instructionAt
 linked-means {bytes} {x} {t} {marks} h consecutive a o la lo =
-    any-below-same _ _ 14 (λ rule l.
+    any-below-same _ _ 16 (λ rule l.
     ap (λ (k : ℕ). linkBy rule k (getD (x .instructions .processors) (getD (t .owners) a 0) 0) (roleNumbered (getD (t .roles) a 0)) (roleNumbered (getD (t .roles) o 0)))
     (h .marked (getD (t .owners) a 0) (getD (t .owners) o 0) (owner-there h a la) (owner-there h o lo))
     ∙ link-means (executionOf bytes x) rule (executionOf bytes x .processors) (operationAt (x .instructions) t a) (operationAt (x .instructions) t o)

@@ -62,33 +62,34 @@ same-remote (suc (suc (suc q))) (suc (suc (suc r))) h =
     (λ e. eq-eqb (suc (suc (suc q))) (suc (suc (suc r))) (omega (arith, eqb-true q r e)))
 
 -- an entry of a rule's roles, at the rule
-pub roles-at : (k : ℕ) {x : Bool} (rule p : ℕ) (a b : Role) → rule ≡ k → x ≡ rolesLink k p a b → x ≡ rolesLink rule p a b
-roles-at k rule p a b e h = h ∙ ap (λ (r : ℕ). rolesLink r p a b) (sym e)
+pub roles-at : (k : ℕ) {x : Bool} (rule m p : ℕ) (a b : Role) → rule ≡ k → x ≡ rolesLink k m p a b → x ≡ rolesLink rule m p a b
+roles-at k rule m p a b e h = h ∙ ap (λ (r : ℕ). rolesLink r m p a b) (sym e)
 
 -- past the table no rule asks for roles
-pub roles-past : (rule p : ℕ) (a b : Role) → 14 ≤ rule → false ≡ rolesLink rule p a b
+pub roles-past : (rule m p : ℕ) (a b : Role) → 16 ≤ rule → false ≡ rolesLink rule m p a b
 unfolding rolesLink
-roles-past rule p a b h = rw List·getD-eq-default
+roles-past rule m p a b h = rw List·getD-eq-default
 
 -- past four numbers, one after the other
 pub past-four : (n k : ℕ) → k < n → (n ≡ k + 1 → ⊥) → (n ≡ k + 2 → ⊥) → (n ≡ k + 3 → ⊥) → (n ≡ k + 4 → ⊥) → k + 4 < n
 past-four n k h a b c d = omega arith
 
 -- the other rules ask for no roles: there is no link
-pub roles-none : (rule p : ℕ) (a b : Role) → (0 < rule → 8 < rule) → (rule ≡ 13 → ⊥) → false ≡ rolesLink rule p a b
+pub roles-none : (rule m p : ℕ) (a b : Role) → (0 < rule → 8 < rule) → (rule ≡ 13 → ⊥) → (rule ≡ 15 → ⊥) → false ≡ rolesLink rule m p a b
 unfolding rolesLink
-roles-none rule p a b h n = go (decLt rule 1) (decLt rule 10) (decLt rule 11) (decLt rule 12) (decLt rule 13)
+roles-none rule m p a b h n l = go (decLt rule 1) (decLt rule 10) (decLt rule 11) (decLt rule 12) (decLt rule 13) (decLt rule 15)
   where
-    go : Dec (rule < 1) → Dec (rule < 10) → Dec (rule < 11) → Dec (rule < 12) → Dec (rule < 13) → false ≡ rolesLink rule p a b
-    go (yes l) d9 d10 d11 d12 = roles-at 0 rule p a b (omega arith) refl
-    go (no g) (yes l) d10 d11 d12 = roles-at 9 rule p a b (let k : 8 < rule = h (omega arith) in omega arith) refl
-    go (no g) (no k) (yes l) d11 d12 = roles-at 10 rule p a b (omega arith) refl
-    go (no g) (no k) (no k2) (yes l) d12 = roles-at 11 rule p a b (omega arith) refl
-    go (no g) (no k) (no k2) (no k3) (yes l) = roles-at 12 rule p a b (omega arith) refl
-    go (no g) (no k) (no k2) (no k3) (no k4) = roles-past rule p a b (omega (arith, n))
+    go : Dec (rule < 1) → Dec (rule < 10) → Dec (rule < 11) → Dec (rule < 12) → Dec (rule < 13) → Dec (rule < 15) → false ≡ rolesLink rule m p a b
+    go (yes l) d9 d10 d11 d12 d14 = roles-at 0 rule m p a b (omega arith) refl
+    go (no g) (yes l) d10 d11 d12 d14 = roles-at 9 rule m p a b (let k : 8 < rule = h (omega arith) in omega arith) refl
+    go (no g) (no k) (yes l) d11 d12 d14 = roles-at 10 rule m p a b (omega arith) refl
+    go (no g) (no k) (no k2) (yes l) d12 d14 = roles-at 11 rule m p a b (omega arith) refl
+    go (no g) (no k) (no k2) (no k3) (yes l) d14 = roles-at 12 rule m p a b (omega arith) refl
+    go (no g) (no k) (no k2) (no k3) (no k4) (yes l) = roles-at 14 rule m p a b (omega (arith, n)) refl
+    go (no g) (no k) (no k2) (no k3) (no k4) (no k5) = roles-past rule m p a b (omega (arith, n, l))
 
 -- the marks of the rules: past the table 1, and none is 0
-pub mark-past : (rule : ℕ) → 14 ≤ rule → 1 ≡ ruleMark rule
+pub mark-past : (rule : ℕ) → 16 ≤ rule → 1 ≡ ruleMark rule
 unfolding ruleMark
 mark-past rule h = sym (List·getD-eq-default ruleMarkTable 1 {n = rule} (omega arith))
 
@@ -103,7 +104,7 @@ unfolding ruleMark all
 mark-positive rule = positive ruleMarkTable rule refl
 
 -- the mark that stands in the table
-pub mark-there : (rule : ℕ) → rule < 14 → (getD ruleMarkTable rule 0 ≡ ruleMark rule) × (0 < getD ruleMarkTable rule 0)
+pub mark-there : (rule : ℕ) → rule < 16 → (getD ruleMarkTable rule 0 ≡ ruleMark rule) × (0 < getD ruleMarkTable rule 0)
 unfolding ruleMark
 mark-there rule h =
     let e : getD ruleMarkTable rule 0 ≡ ruleMark rule = getD-there ruleMarkTable rule 0 1 h in

@@ -13,7 +13,7 @@ use Rattle.relation_links.specs.Links.{linkBy}
 
 -- some rule links two operations, by the marks of their instructions and their roles, the first of processor p
 unfoldable pub linkedBy : ℕ → ℕ → Role → Role → Bool
-linkedBy marks p a b = anyBelow 14 (λ rule. linkBy rule marks p a b)
+linkedBy marks p a b = anyBelow 16 (λ rule. linkBy rule marks p a b)
 
 -- some rule links operation a to operation b
 unfoldable pub linkedAt : Instructions → Operations → List (List ℕ) → ℕ → ℕ → Bool

@@ -1,3 +1,3 @@
-// The links of rules 1 to 8 and 13: 'a before b' required without an 'if', as a relation of two operations.
+// The links of rules 1 to 8, 13 and 15: 'a before b' required without an 'if', as a relation of two operations.
 pub mod link;
 pub mod operations;

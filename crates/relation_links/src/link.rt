@@ -6,7 +6,7 @@ ghost use lib.Dec.{eqb};
 ghost use Rattle.model.specs.Execution.{hasRoleR, hasRoleLV, hasRoleRV};
 ghost use Rattle.model.specs.Rules.{sameVisibility};
 ghost use Rattle.record_decoded.specs.Kinds.{roleNumbered};
-ghost use Rattle.relation_links.specs.Links.{ruleMark, rolesLink, linkBy};
+ghost use Rattle.relation_links.specs.Links.{ruleMark, endRole, rolesLink, linkBy};
 ghost use Rattle.relation_links.specs.Linked.{linkedBy};
 use record_decoded::kind::ROLE_LV;
 use record_decoded::kind::ROLE_R;
@@ -14,11 +14,13 @@ use record_decoded::kind::ROLE_RV;
 use relation_marks::table::ACQUIRE;
 use relation_marks::table::DOMAIN;
 use relation_marks::table::FENCE;
+use relation_marks::table::FIRST_SEMAPHORE;
 use relation_marks::table::LINK_MARKS;
 use relation_marks::table::OVERLAP;
 use relation_marks::table::PAIR;
 use relation_marks::table::RELEASE;
 use relation_marks::table::SAME;
+use relation_marks::table::SECOND_SEMAPHORE;
 use relation_marks::table::both;
 use relation_marks::table::either;
 use relation_marks::table::has_mark;
@@ -78,7 +80,7 @@ fn is_same_visibility(a: u8, b: u8) -> bool
 }
 
 // How many visibility rules there are.
-pub const RULES: u8 = 14;
+pub const RULES: u8 = 16;
 
 // The marks that the rules below the last ask for, by their numbers from 0 on. Rules without a link ask for SAME.
 const RULE_MARKS: [u16; RULES as usize] = [
@@ -96,6 +98,8 @@ const RULE_MARKS: [u16; RULES as usize] = [
     SAME,
     SAME,
     DOMAIN,
+    SAME,
+    SAME,
 ];
 
 // The mark that a rule asks for.
@@ -109,9 +113,16 @@ pub fn rule_mark(rule: u8) -> u16
     }
 }
 
-// What a rule asks of the roles of two operations, the first of `processor`.
-pub fn roles_link(rule: u8, processor: u8, a: u8, b: u8) -> bool
-    ensures { λ r. ⌜ r ≡ rolesLink rule processor (roleNumbered a) (roleNumbered b) ⌝ }
+// What an end of a dependence pair stands for: R or LV, of a semaphore R.
+fn is_end(semaphore: bool, role: u8) -> bool
+    ensures { λ r. ⌜ r ≡ endRole semaphore (roleNumbered role) ⌝ }
+{
+    either(is_r(role), both(is_lv(role), !semaphore))
+}
+
+// What a rule asks of the roles of two operations, the first of `processor`, by the marks of their instructions.
+pub fn roles_link(rule: u8, marks: u16, processor: u8, a: u8, b: u8) -> bool
+    ensures { λ r. ⌜ r ≡ rolesLink rule marks processor (roleNumbered a) (roleNumbered b) ⌝ }
 {
     match rule {
         1 => either(
@@ -124,8 +135,12 @@ pub fn roles_link(rule: u8, processor: u8, a: u8, b: u8) -> bool
         5 => both(is_lv(a), is_r(b)),
         6 => both(is_r(a), is_lv(b)),
         7 => both(is_lv(a), is_lv(b)),
-        8 => both(is_access(a), is_access(b)),
+        8 => both(
+            is_end(has_mark(marks, FIRST_SEMAPHORE), a),
+            is_end(has_mark(marks, SECOND_SEMAPHORE), b),
+        ),
         13 => both(is_access(a), is_access(b)),
+        15 => both(is_r(a), is_lv(b)),
         _ => false,
     }
 }
@@ -135,7 +150,7 @@ pub fn link(rule: u8, marks: u16, processor: u8, a: u8, b: u8) -> bool
     ensures { λ r. ⌜ r ≡ linkBy rule marks processor (roleNumbered a) (roleNumbered b) ⌝ }
 {
     if has_mark(marks, rule_mark(rule)) {
-        roles_link(rule, processor, a, b)
+        roles_link(rule, marks, processor, a, b)
     } else {
         false
     }
@@ -175,5 +190,8 @@ pub fn is_linked(marks: u16, processor: u8, a: u8, b: u8) -> bool
     if link(8, marks, processor, a, b) {
         return true;
     }
-    link(13, marks, processor, a, b)
+    if link(13, marks, processor, a, b) {
+        return true;
+    }
+    link(15, marks, processor, a, b)
 }

@@ -9,7 +9,7 @@ use lib.Dec.{eqb, ltb}
 use Rattle.base.specs.Lists.{member}
 use Rattle.base.specs.Bits.{packed, packedOn}
 use Rattle.model.specs.Execution as model
-use Rattle.model.specs.Execution.{kindOf, isLoad, isStore, isRelease, isWB, isUC, sameDomain, noLine, lineAt, attributeAt}
+use Rattle.model.specs.Execution.{kindOf, isLoad, isStore, isSemaphore, isRelease, isWB, isUC, sameDomain, noLine, lineAt, attributeAt}
 use Rattle.model.specs.ProgramOrder.{marks}
 use Rattle.model.specs.Rules.{conflict}
 use Rattle.record_decoded.specs.declared.types.Execution.{Execution}
@@ -18,38 +18,40 @@ use Rattle.relation_marks.specs.Marks.{sharesByte, givenPair, earlierOf,
 use Rattle.relation_marks.proofs.MarkLaws.{overlap-shares}
 
 -- put together from the highest bit down
-pub put-together : (same own earlier overlaps given : Bool) (a b : model.Kind) (of-a of-b : model.Attribute) {r program overlap-mark pair domain memory : ℕ}
+pub put-together : (same own earlier overlaps given : Bool) (a b : model.Kind) (of-a of-b : model.Attribute) {r program overlap-mark pair domain memory semaphores : ℕ}
     → r ≡ cond same 1 0 + 2 * program
     → program ≡ packedOn overlap-mark ((earlier && member (marks a b) 2) ∷ (earlier && member (marks a b) 3) ∷ (earlier && member (marks a b) 4) ∷ [])
     → overlap-mark ≡ cond (earlier && overlaps) 1 0 + 2 * pair → pair ≡ cond given 1 0 + 2 * domain
     → domain ≡ cond (earlier && sameDomain of-a of-b) 1 0 + 2 * memory
-    → memory ≡ packed (
+    → memory ≡ packedOn semaphores (
     (isStore a && isStore b && (not same && overlaps && ((isWB of-a || isUC of-a) && (isWB of-b || isUC of-b))))
     ∷ (isStore a && isLoad b && (isUC of-a && (own && overlaps)))
     ∷ (same && (isStore a && (isRelease a && isWB of-a)))
     ∷ [])
+    → semaphores ≡ packed ((isSemaphore a && isStore b && (not same && overlaps)) ∷ isSemaphore a ∷ isSemaphore b ∷ [])
     → r ≡ marksBy same own earlier overlaps given a b of-a of-b
 unfolding marksBy packed packedOn
-put-together same own earlier overlaps given a b of-a of-b h1 h2 h3 h4 h5 h6 = cc (h1, h2, h3, h4, h5, h6)
+put-together same own earlier overlaps given a b of-a of-b h1 h2 h3 h4 h5 h6 h7 = cc (h1, h2, h3, h4, h5, h6, h7)
 
 -- the first is neither the second nor earlier
-pub unrelated-together : (same own earlier overlaps given : Bool) (a b : model.Kind) (of-a of-b : model.Attribute) {r memory : ℕ} → (same || earlier) ≡ false
+pub unrelated-together : (same own earlier overlaps given : Bool) (a b : model.Kind) (of-a of-b : model.Attribute) {r memory semaphores : ℕ} → (same || earlier) ≡ false
     → r ≡ cond given 32 0 + 128 * memory
-    → memory ≡ packed (
+    → memory ≡ packedOn semaphores (
     (isStore a && isStore b && (not same && overlaps && ((isWB of-a || isUC of-a) && (isWB of-b || isUC of-b))))
     ∷ (isStore a && isLoad b && (isUC of-a && (own && overlaps)))
     ∷ (same && (isStore a && (isRelease a && isWB of-a)))
     ∷ [])
+    → semaphores ≡ packed ((isSemaphore a && isStore b && (not same && overlaps)) ∷ isSemaphore a ∷ isSemaphore b ∷ [])
     → r ≡ marksBy same own earlier overlaps given a b of-a of-b
 unfolding packedOn
-unrelated-together true own earlier overlaps given a b of-a of-b n h k = absurd (false≢true (sym n))
-unrelated-together false own true overlaps given a b of-a of-b n h k = absurd (false≢true (sym n))
-unrelated-together false own false overlaps true a b of-a of-b {r} {memory} n h k =
-    put-together false own false overlaps true a b of-a of-b {r = r} {program = 2 * (2 * (2 * (2 * (1 + 2 * (2 * memory)))))} {overlap-mark = 2 * (1 + 2 * (2 * memory))} {pair = 1 + 2 * (2 * memory)} {domain = 2 * memory} {memory = memory}
-    (omega arith) (omega arith) (omega arith) (omega arith) (omega arith) k
-unrelated-together false own false overlaps false a b of-a of-b {r} {memory} n h k =
-    put-together false own false overlaps false a b of-a of-b {r = r} {program = 2 * (2 * (2 * (2 * (2 * (2 * memory)))))} {overlap-mark = 2 * (2 * (2 * memory))} {pair = 2 * (2 * memory)} {domain = 2 * memory} {memory = memory}
-    (omega arith) (omega arith) (omega arith) (omega arith) (omega arith) k
+unrelated-together true own earlier overlaps given a b of-a of-b n h k l = absurd (false≢true (sym n))
+unrelated-together false own true overlaps given a b of-a of-b n h k l = absurd (false≢true (sym n))
+unrelated-together false own false overlaps true a b of-a of-b {r} {memory} {semaphores} n h k l =
+    put-together false own false overlaps true a b of-a of-b {r = r} {program = 2 * (2 * (2 * (2 * (1 + 2 * (2 * memory)))))} {overlap-mark = 2 * (1 + 2 * (2 * memory))} {pair = 1 + 2 * (2 * memory)} {domain = 2 * memory} {memory = memory} {semaphores = semaphores}
+    (omega arith) (omega arith) (omega arith) (omega arith) (omega arith) k l
+unrelated-together false own false overlaps false a b of-a of-b {r} {memory} {semaphores} n h k l =
+    put-together false own false overlaps false a b of-a of-b {r = r} {program = 2 * (2 * (2 * (2 * (2 * (2 * memory)))))} {overlap-mark = 2 * (2 * (2 * memory))} {pair = 2 * (2 * memory)} {domain = 2 * memory} {memory = memory} {semaphores = semaphores}
+    (omega arith) (omega arith) (omega arith) (omega arith) (omega arith) k l
 
 module _ (bytes : List ℕ) (x : Execution) (m n : ℕ) where
   facts : marksBetween (executionOf bytes x) (instructionAt (x .instructions) m) (instructionAt (x .instructions) n)

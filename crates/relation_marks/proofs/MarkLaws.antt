@@ -14,14 +14,12 @@ use Rattle.base.proofs.Bits.{bit-packed}
 use Rattle.base.proofs.Lists.{any-witness, any-member, all-member, in-count, of-count, getD-below}
 use Rattle.base.specs.Below.{anyBelow}
 use Rattle.base.proofs.Tests.{any-numbered}
-use Rattle.model.specs.Execution.{Kind, WC, attributeOf, Line, noLine, Instruction, kindRow}
+use Rattle.model.specs.Execution.{Kind, Instruction, kindRow}
 use Rattle.model.specs.ProgramOrder.{ruleMarks, marks}
 use Rattle.model.proofs.ProgramOrder.{kinds, listed}
 use Rattle.model.specs.Rules.{addresses, accesses, overlap}
-use Rattle.record_decoded.specs.declared.types.Lines.{Lines}
 use Rattle.record_decoded.specs.declared.types.Pairs.{Pairs}
-use Rattle.record_decoded.specs.Decoded.{decodedLine, linesOf, pairAt, pairsOf}
-use Rattle.record_decoded.proofs.Arrays.{lines-length}
+use Rattle.record_decoded.specs.Decoded.{pairAt, pairsOf}
 use Rattle.relation_marks.specs.Marks.{programMarks, sharesByte, givenPair, hasMark}
 
 -- two intervals meet where the later start is before the earlier end
@@ -72,14 +70,6 @@ program-order j k = eqb-true _ _ (all-member (right j) (listed k) (all-member (�
 pub pair-by-index : (ps : Pairs) (m n : ℕ) → anyBelow (ps .count) (λ k. eqb (getD (ps .earlier) k 0) m && eqb (getD (ps .later) k 0) n) ≡ givenPair (pairsOf ps) m n
 unfolding givenPair pairsOf pairAt
 pair-by-index ps m n = sym (any-numbered (λ p. eqb (p .0) m && eqb (p .1) n) (pairAt ps) (ps .count))
-
--- the attribute of a line that is there, and of one that is not
-pub attribute-there : (part : List ℕ) (ls : Lines) (k : ℕ) → k < ls .count → attributeOf (getD (ls .attributes) k 0) ≡ getD (linesOf part ls) k noLine .attribute
-unfolding decodedLine linesOf
-attribute-there part ls k h = sym (ap (λ (l : Line). l .attribute) (getD-below (decodedLine part ls) noLine (ls .count) k h))
-
-pub attribute-past : (part : List ℕ) (ls : Lines) (k : ℕ) → ls .count ≤ k → WC ≡ getD (linesOf part ls) k noLine .attribute
-attribute-past part ls k h = sym (ap (λ (l : Line). l .attribute) (List·getD-eq-default (linesOf part ls) noLine {n = k} (omega (arith, lines-length part ls))))
 
 -- the marks of rules 2, 3 and 4, read back
 module _ (j k : Kind) where

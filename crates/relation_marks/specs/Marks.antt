@@ -6,7 +6,7 @@ use lib.ListN.{getD}
 use lib.Dec.{eqb, leb, ltb}
 use Rattle.base.specs.Lists.{any, count, member}
 use Rattle.base.specs.Bits.{packed}
-use Rattle.model.specs.Execution.{Kind, Attribute, isLoad, isStore, isRelease, isWB, isUC, sameDomain, Instruction, Execution}
+use Rattle.model.specs.Execution.{Kind, Attribute, isLoad, isStore, isSemaphore, isRelease, isWB, isUC, sameDomain, Instruction, Execution}
 use Rattle.model.specs.ProgramOrder.{marks}
 use Rattle.model.specs.Rules.{overlap, inWB, inUC, inOneDomain, conflict}
 
@@ -33,6 +33,16 @@ bypassMark = 256
 abbrev pub atomicMark : ℕ
 atomicMark = 512
 
+-- the mark of rule 16, and those that the first and that the second is a semaphore
+abbrev pub lockMark : ℕ
+lockMark = 1024
+
+abbrev pub firstSemaphoreMark : ℕ
+firstSemaphoreMark = 2048
+
+abbrev pub secondSemaphoreMark : ℕ
+secondSemaphoreMark = 4096
+
 -- the first is an earlier instruction of the second's program
 unfoldable pub earlierOf : Instruction → Instruction → Bool
 earlierOf i j = eqb (i .processor) (j .processor) && ltb (i .number) (j .number)
@@ -42,7 +52,8 @@ unfoldable pub givenPair : List (ℕ × ℕ) → ℕ → ℕ → Bool
 givenPair pairs m n = any (λ p. eqb (p .0) m && eqb (p .1) n) pairs
 
 -- The marks in the order of their bits: one instruction; rules 2, 3 and 4 by the kinds; a shared byte; a dependence pair; rule 13: UC memory of one domain;
--- rules 9 and 10: conflicting stores; rule 14: a UC store and an overlapping load of its processor; rule 12: one st.rel to WB.
+-- rules 9 and 10: conflicting stores; rule 14: a UC store and an overlapping load of its processor; rule 12: one st.rel to WB; rule 16: a semaphore and another
+-- overlapping store; the first is a semaphore, and the second is one.
 unfoldable pub marksOf : Execution → Instruction → Instruction → List Bool
 marksOf e i j =
     eqb (i .number) (j .number)
@@ -55,6 +66,9 @@ marksOf e i j =
     ∷ (isStore (i .kind) && isStore (j .kind) && conflict e i j)
     ∷ (isStore (i .kind) && isLoad (j .kind) && (inUC e i && (eqb (i .processor) (j .processor) && overlap i j)))
     ∷ (eqb (i .number) (j .number) && (isStore (i .kind) && (isRelease (i .kind) && inWB e i)))
+    ∷ (isSemaphore (i .kind) && isStore (j .kind) && (not (eqb (i .number) (j .number)) && overlap i j))
+    ∷ isSemaphore (i .kind)
+    ∷ isSemaphore (j .kind)
     ∷ []
 
 unfoldable pub marksBetween : Execution → Instruction → Instruction → ℕ
@@ -74,6 +88,9 @@ marksBy same own earlier overlaps given a b of-a of-b =
     ∷ (isStore a && isStore b && (not same && overlaps && ((isWB of-a || isUC of-a) && (isWB of-b || isUC of-b))))
     ∷ (isStore a && isLoad b && (isUC of-a && (own && overlaps)))
     ∷ (same && (isStore a && (isRelease a && isWB of-a)))
+    ∷ (isSemaphore a && isStore b && (not same && overlaps))
+    ∷ isSemaphore a
+    ∷ isSemaphore b
     ∷ [])
 
 -- the mark at row i and column j

@@ -6,15 +6,13 @@ ghost use Prim.Native.Nat.{ℕ, _+_, _*_, _<_, _≤_};
 ghost use lib.ListN.{getD};
 ghost use Rattle.base.specs.Lists.{member};
 ghost use Rattle.base.specs.Bits.{packed, packedOn};
-ghost use Rattle.model.specs.Execution.{isLoad, isStore, isRelease, isWB, isUC};
+ghost use Rattle.model.specs.Execution.{isLoad, isStore, isSemaphore, isRelease, isWB, isUC};
 ghost use Rattle.model.specs.ProgramOrder.{marks};
 ghost use Rattle.record_decoded.specs.Kinds.{meant, attributeMeant};
 ghost use Rattle.record_decoded.specs.Decoded.{instructionAt, executionOf};
 ghost use Rattle.relation_marks.specs.Marks.{marksBy, marksBetween, markAt};
-use crate::memory::attribute_in;
 use crate::memory::is_pair;
 use crate::memory::is_uc;
-use crate::memory::is_wb;
 use crate::memory::same_domain;
 use crate::table::ACQUIRE;
 use crate::table::CONFLICT;
@@ -31,8 +29,11 @@ use record_decoded::kind::Attribute;
 use record_decoded::kind::Kind;
 use record_decoded::kind::is_load;
 use record_decoded::kind::is_release;
+use record_decoded::kind::is_semaphore;
 use record_decoded::kind::is_store;
 use record_decoded::kind::kind_of;
+use record_decoded::memory::attribute_in;
+use record_decoded::memory::is_wb;
 use record_decoded::types::Execution;
 use record_decoded::types::InstructionNo;
 use record_decoded::types::MOST_INSTRUCTIONS;
@@ -55,8 +56,20 @@ fn is_coherent(a: Attribute) -> bool
     either(is_wb(a), is_uc(a))
 }
 
-// The marks of conflicting stores, of a UC store and an overlapping load of its processor, and of one st.rel to WB.
+// The marks of a semaphore and another overlapping store, and that the first and that the second is a semaphore.
+fn semaphore_marks(same: bool, overlaps: bool, first: Kind, second: Kind) -> u16
+    ensures { λ r. ⌜ (r ≡ packed ((isSemaphore (meant first) && isStore (meant second) && (not same && overlaps)) ∷ isSemaphore (meant first) ∷ isSemaphore (meant second) ∷ [])) × (r ≤ 7) ⌝ }
+{
+    let is_first = is_semaphore(first);
+    let is_second = is_semaphore(second);
+    let stores = both(is_first, is_store(second));
+    let lock = both(stores, both(!same, overlaps));
+    with_mark(with_mark(with_mark(0, is_second), is_first), lock)
+}
+
+// The marks of conflicting stores, of a UC store and an overlapping load of its processor, and of one st.rel to WB, below others.
 fn memory_marks(
+    above: u16,
     same: bool,
     own: bool,
     overlaps: bool,
@@ -65,7 +78,8 @@ fn memory_marks(
     of_first: Attribute,
     of_second: Attribute,
 ) -> u16
-    ensures { λ r. ⌜ (r ≡ packed ((isStore (meant first) && isStore (meant second) && (not same && overlaps && ((isWB (attributeMeant «of_first») || isUC (attributeMeant «of_first»)) && (isWB (attributeMeant «of_second») || isUC (attributeMeant «of_second»))))) ∷ (isStore (meant first) && isLoad (meant second) && (isUC (attributeMeant «of_first») && (own && overlaps))) ∷ (same && (isStore (meant first) && (isRelease (meant first) && isWB (attributeMeant «of_first»)))) ∷ [])) × (r ≤ 7) ⌝ }
+    requires { ⌜ above ≤ 7 ⌝ }
+    ensures { λ r. ⌜ (r ≡ packedOn above ((isStore (meant first) && isStore (meant second) && (not same && overlaps && ((isWB (attributeMeant «of_first») || isUC (attributeMeant «of_first»)) && (isWB (attributeMeant «of_second») || isUC (attributeMeant «of_second»))))) ∷ (isStore (meant first) && isLoad (meant second) && (isUC (attributeMeant «of_first») && (own && overlaps))) ∷ (same && (isStore (meant first) && (isRelease (meant first) && isWB (attributeMeant «of_first»)))) ∷ [])) × (r ≤ 7 + 8 * above) ⌝ }
 {
     let stores = both(is_store(first), is_store(second));
     let coherent = both(is_coherent(of_first), is_coherent(of_second));
@@ -73,13 +87,13 @@ fn memory_marks(
     let store_and_load = both(is_store(first), is_load(second));
     let bypass = both(store_and_load, both(is_uc(of_first), both(own, overlaps)));
     let release_to_wb = both(is_release(first), is_wb(of_first));
-    let atomic = with_mark(0, both(same, both(is_store(first), release_to_wb)));
+    let atomic = with_mark(above, both(same, both(is_store(first), release_to_wb)));
     with_mark(with_mark(atomic, bypass), conflict)
 }
 
-// All marks of two instructions of which the first is neither the second nor an earlier one of its program: those of memory, and of a pair.
+// All marks of two instructions of which the first is neither the second nor an earlier one of its program: those of memory and semaphores, and of a pair.
 fn unrelated_marks(memory: u16, given: bool) -> u16
-    requires { ⌜ memory ≤ 7 ⌝ }
+    requires { ⌜ memory ≤ 63 ⌝ }
     ensures { λ r. ⌜ r ≡ cond given 32 0 + 128 * memory ⌝ }
 {
     if given {
@@ -103,7 +117,10 @@ fn marks_by(
 ) -> u16
     ensures { λ r. ⌜ r ≡ marksBy same own earlier overlaps given (meant first) (meant second) (attributeMeant «of_first») (attributeMeant «of_second») ⌝ }
 {
-    let memory = memory_marks(same, own, overlaps, first, second, of_first, of_second);
+    let semaphores = semaphore_marks(same, overlaps, first, second);
+    let memory = memory_marks(
+        semaphores, same, own, overlaps, first, second, of_first, of_second,
+    );
     if !either(same, earlier) {
         return unrelated_marks(memory, given);
     }

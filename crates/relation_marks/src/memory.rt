@@ -1,43 +1,15 @@
-// The attribute of the memory that an access goes to, and whether two instructions are a dependence pair.
+// Tests of attributes, and whether two instructions are a dependence pair.
 ghost use mathlib.Core.Path.{_≡_};
-ghost use mathlib.Core.List.{List};
-ghost use Prim.Native.Nat.{ℕ, _/_, _≤_};
-ghost use lib.ListN.{getD};
-ghost use Rattle.model.specs.Execution.{noLine, isWB, isUC, isUCof, sameDomain};
+ghost use Prim.Native.Nat.{_≤_};
+ghost use Rattle.model.specs.Execution.{isUC, isUCof, sameDomain};
 ghost use Rattle.record_decoded.specs.Kinds.{attributeMeant};
-ghost use Rattle.record_decoded.specs.Decoded.{linesOf, pairsOf};
+ghost use Rattle.record_decoded.specs.Decoded.{pairsOf};
 ghost use Rattle.relation_marks.specs.Marks.{givenPair};
 use crate::table::both;
 use record_decoded::kind::Attribute;
-use record_decoded::kind::attribute_of;
 use record_decoded::types::InstructionNo;
-use record_decoded::types::Lines;
 use record_decoded::types::Pairs;
 use record_decoded::types::wide;
-
-// The attribute of the line of an address; that of no line is WC.
-pub fn attribute_in(lines: Lines, address: u8) -> Attribute
-    requires { ⌜ lines .count ≤ 8 ⌝ }
-    ensures { λ r. ⌜ ((part : List ℕ) → attributeMeant r ≡ getD (linesOf part lines) (address / 8) noLine .attribute) ⌝ }
-{
-    let line = wide(address) / 8;
-    let attributes = lines.attributes;
-    if line < lines.count {
-        attribute_of(attributes[line])
-    } else {
-        Attribute::WC
-    }
-}
-
-pub fn is_wb(a: Attribute) -> bool
-    ensures { λ r. ⌜ r ≡ isWB (attributeMeant a) ⌝ }
-{
-    match a {
-        Attribute::WB => true,
-        Attribute::UC(_) => false,
-        Attribute::WC => false,
-    }
-}
 
 pub fn is_uc(a: Attribute) -> bool
     ensures { λ r. ⌜ r ≡ isUC (attributeMeant a) ⌝ }

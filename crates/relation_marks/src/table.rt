@@ -10,7 +10,7 @@ use record_decoded::kind::table_row;
 use record_decoded::types::wide;
 
 // The marks: one instruction; rules 2, 3 and 4 by the kinds; a shared byte; a dependence pair; UC memory of one domain; conflicting stores; a UC store and an
-// overlapping load of its processor; one st.rel to WB.
+// overlapping load of its processor; one st.rel to WB; a semaphore and another overlapping store; the first is a semaphore; the second is one.
 pub const SAME: u16 = 1;
 
 pub const ACQUIRE: u16 = 2;
@@ -30,6 +30,12 @@ pub const CONFLICT: u16 = 128;
 pub const BYPASS: u16 = 256;
 
 pub const ATOMIC: u16 = 512;
+
+pub const LOCK: u16 = 1024;
+
+pub const FIRST_SEMAPHORE: u16 = 2048;
+
+pub const SECOND_SEMAPHORE: u16 = 4096;
 
 // The marks that some link asks for, and those that a link to an RV asks for.
 pub const LINK_MARKS: u16 = SAME + ACQUIRE + RELEASE + FENCE + OVERLAP + PAIR + DOMAIN;

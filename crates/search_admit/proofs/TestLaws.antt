@@ -17,7 +17,7 @@ use Rattle.search_sets.specs.Set.{holds}
 use Rattle.search_sets.proofs.Bit.{has-and, has-or}
 use Rattle.search_sets.proofs.Laws.{has-minus, has-xor, zero-has, bits-zero}
 use Rattle.search_sets.proofs.Members.{any-skips, holds-none}
-use Rattle.search_admit.specs.Rows.{field, awaited, bypasses, writtenBits, readBits, readData, visibleWord, ownWord, ownOf, localOf, merged, wordsWith}
+use Rattle.search_admit.specs.Rows.{field, awaited, bypasses, writtenBits, readBits, readData, visibleWord, ownWord, ownOf, localOf, readOf, merged, wordsWith}
 use Rattle.search_admit.specs.Fits.{bothOrNeither, waitsFor, refused, pending, localBit, readsRecorded}
 
 -- the ways out of the test of one operation that may be waited for
@@ -32,32 +32,44 @@ module _ (rows places : List ℕ) (x m : ℕ) {own-m own-x : ℕ} (is-m : own-m 
   first-is : r ≡ first
   first-is = tells ∙ ap₂ (beforeBy places) is-m is-x
 
+  abbrev read : Bool
+  read = beforeBy places (readOf rows m) x
+
   pub waits-first : r ≡ true → true ≡ waitsFor rows places x m
   unfolding waitsFor
-  waits-first h = ap (λ (b : Bool). b || eqb (ownOf rows m) m && (eqb (ownOf rows x) x && locals)) (sym h ∙ first-is)
+  waits-first h = ap (λ (b : Bool). b || eqb (ownOf rows m) m && (read || eqb (ownOf rows x) x && locals)) (sym h ∙ first-is)
 
   pub waits-not : r ≡ false → (own-m ≡ m → ⊥) → false ≡ waitsFor rows places x m
   unfolding waitsFor
   waits-not h n =
-      ap₂ (λ (b d : Bool). b || d && (eqb (ownOf rows x) x && locals)) (sym h ∙ first-is) (sym (ne-eqb (ownOf rows m) m (λ e. n (is-m ∙ e))))
+      ap₂ (λ (b d : Bool). b || d && (read || eqb (ownOf rows x) x && locals)) (sym h ∙ first-is) (sym (ne-eqb (ownOf rows m) m (λ e. n (is-m ∙ e))))
 
-  pub waits-not-own : r ≡ false → (own-x ≡ x → ⊥) → false ≡ waitsFor rows places x m
-  unfolding waitsFor
-  waits-not-own h n = go first (eqb (ownOf rows m) m) (eqb (ownOf rows x) x) (sym first-is ∙ h) (ne-eqb (ownOf rows x) x (λ e. n (is-x ∙ e)))
-    where
-      go : (a b d : Bool) → a ≡ false → d ≡ false → false ≡ (a || b && (d && locals))
-      go true b d p q = sym p
-      go false true d p q = ap (λ (u : Bool). u && locals) (sym q)
-      go false false d p q = refl
+  -- where m is an own RV
+  module _ (h : r ≡ false) (o : own-m ≡ m) {read-m : ℕ} (is-read : read-m ≡ readOf rows m) {u : Bool} (reads : u ≡ beforeBy places read-m x) where
+    own-is : eqb (ownOf rows m) m ≡ true
+    own-is = eq-eqb (ownOf rows m) m (sym is-m ∙ o)
 
-  pub waits-last : r ≡ false → own-m ≡ m → own-x ≡ x → {local-m local-x : ℕ} → local-m ≡ localOf rows m → local-x ≡ localOf rows x
-      → {s : Bool} → s ≡ beforeBy places local-m local-x → s ≡ waitsFor rows places x m
-  unfolding waitsFor
-  waits-last h o n lm lx {s} f =
-      go first (eqb (ownOf rows m) m) (eqb (ownOf rows x) x) (sym first-is ∙ h) (eq-eqb (ownOf rows m) m (sym is-m ∙ o)) (eq-eqb (ownOf rows x) x (sym is-x ∙ n))
-    where
-      go : (a b d : Bool) → a ≡ false → b ≡ true → d ≡ true → s ≡ (a || b && (d && locals))
-      go a b d p q t = rw (p, q, t) (f ∙ ap₂ (beforeBy places) lm lx)
+    read-is : u ≡ read
+    read-is = reads ∙ ap (λ (k : ℕ). beforeBy places k x) is-read
+
+    -- what is left to ask
+    waits-own : {s : Bool} → s ≡ (u || eqb (ownOf rows x) x && locals) → s ≡ waitsFor rows places x m
+    unfolding waitsFor
+    waits-own {s} e = go first (eqb (ownOf rows m) m) read (sym first-is ∙ h) own-is (e ∙ ap (λ (b : Bool). b || eqb (ownOf rows x) x && locals) read-is)
+      where
+        go : (a b d : Bool) → a ≡ false → b ≡ true → s ≡ (d || eqb (ownOf rows x) x && locals) → s ≡ (a || b && (d || eqb (ownOf rows x) x && locals))
+        go a b d p q f = rw (p, q) f
+
+    pub waits-read : u ≡ true → true ≡ waitsFor rows places x m
+    waits-read t = waits-own (ap (λ (b : Bool). b || eqb (ownOf rows x) x && locals) (sym t))
+
+    pub waits-not-own : u ≡ false → (own-x ≡ x → ⊥) → false ≡ waitsFor rows places x m
+    waits-not-own t n = waits-own (ap₂ (λ (b d : Bool). b || d && locals) (sym t) (sym (ne-eqb (ownOf rows x) x (λ e. n (is-x ∙ e)))))
+
+    pub waits-last : u ≡ false → own-x ≡ x → {local-m local-x : ℕ} → local-m ≡ localOf rows m → local-x ≡ localOf rows x
+        → {s : Bool} → s ≡ beforeBy places local-m local-x → s ≡ waitsFor rows places x m
+    waits-last t n lm lx f =
+        waits-own (f ∙ ap₂ (beforeBy places) lm lx ∙ ap₂ (λ (b d : Bool). b || d && locals) (sym t) (sym (eq-eqb (ownOf rows x) x (sym is-x ∙ n))))
 
 -- what is left of a set without those that stand
 pub missing-is : (rows : List ℕ) (f x lo hi slo shi mlo mhi : ℕ) → slo ≡ field rows f x → shi ≡ field rows (f + 1) x

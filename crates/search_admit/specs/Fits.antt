@@ -10,7 +10,7 @@ use Rattle.base.specs.Below.{allBelow, anyBelow}
 use Rattle.base.specs.Bits.{bit}
 use Rattle.relation_places.specs.Places.{beforeBy, Placed}
 use Rattle.search_sets.specs.Set.{holds}
-use Rattle.search_admit.specs.Rows.{precedes, partnerBy, awaited, bypasses, writtenBits, readBits, readData, visibleWord, ownWord, ownOf, localOf, wordsAfter}
+use Rattle.search_admit.specs.Rows.{precedes, partnerBy, awaited, bypasses, writtenBits, readBits, readData, visibleWord, ownWord, ownOf, localOf, readOf, wordsAfter}
 
 -- the last entry; 255 where there is none
 unfoldable pub lastEntry : List ℕ → ℕ
@@ -32,14 +32,14 @@ bothOrNeither true b = b
 bothOrNeither false b = not b
 
 module _ (rows places : List ℕ) where
-  -- Operation x must wait for m, which does not stand. Rule 10: the own RV of m's store stands before that of x's. Rules 9 and 14: both are own RVs, or
-  -- x is an R, and the LV of m's store stands before that of x's store or before the R.
+  -- Operation x, which does not stand, must wait for m, which does not either. Rule 10: the own RV of m's store stands before that of x's. Rule 16: m is the own
+  -- RV of a semaphore whose R stands. Rules 9 and 14: both are own RVs, or x is an R, and the LV of m's store stands before that of x's store or before the R.
   unfoldable pub waitsFor : ℕ → ℕ → Bool
   waitsFor x m =
       beforeBy places (ownOf rows m) (ownOf rows x)
-      || eqb (ownOf rows m) m && (eqb (ownOf rows x) x && beforeBy places (localOf rows m) (localOf rows x))
+      || eqb (ownOf rows m) m && (beforeBy places (readOf rows m) x || eqb (ownOf rows x) x && beforeBy places (localOf rows m) (localOf rows x))
 
-  -- rules 9, 10 and 14, behind what stands
+  -- rules 9, 10, 14 and 16, behind what stands
   unfoldable pub refused : ℕ → ℕ → ℕ → Bool
   refused lo hi x = anyBelow 128 (λ m. awaited rows x m && not (holds lo hi m) && waitsFor x m)
 

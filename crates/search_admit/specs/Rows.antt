@@ -1,4 +1,4 @@
--- What is compiled of an execution: a row of seventeen words for each operation. The words of memory, and what a row has of them, are relative to the initial bytes.
+-- What is compiled of an execution: a row of eighteen words for each operation. The words of memory, and what a row has of them, are relative to the initial bytes.
 use Prim.Native.Nat.{ℕ, _+_, _*_, _-_, _/_, _%_, _<_}
 use mathlib.Core.Path.{_≡_}
 use mathlib.Core.Bool.{Bool, true, cond, _&&_, _||_}
@@ -9,7 +9,8 @@ use lib.Dec.{eqb, leb, ltb}
 use Rattle.base.specs.Lists.{any, member}
 use Rattle.base.specs.Below.{anyBelow}
 use Rattle.base.specs.Bits.{bit}
-use Rattle.model.specs.Execution.{Kind, isStore, isRelease, kindOf, LV, RV, stores, operations, numberFrom, numberOf}
+use Rattle.model.specs.Execution.{Kind, isStore, isSemaphore, isRelease, kindOf, R, LV, RV, stores, operations, numberFrom, numberOf}
+use Rattle.model.specs.Questions.{writtenFrom}
 use Rattle.model.specs.Rules.{linked, inWB, RV-own, remoteOf, accesses}
 use Rattle.record_decoded.specs.declared.types.Execution.{Execution}
 use Rattle.record_decoded.specs.Decoded.{initialOf, instructionAt, executionOf}
@@ -21,7 +22,7 @@ use Rattle.search_sets.specs.Set.{holds}
 
 -- the words of a row, and of all 128 rows
 abbrev pub rowLength : ℕ
-rowLength = 17
+rowLength = 18
 
 abbrev pub tableLength : ℕ
 tableLength = 128 * rowLength
@@ -45,7 +46,7 @@ module _ (rows : List ℕ) where
   abbrev pub partnerBy : ℕ → ℕ → Bool
   partnerBy x a = setBy rows 2 x a
 
-  -- x may have to wait for a by rule 9, 10 or 14
+  -- x may have to wait for a by rule 9, 10, 14 or 16
   abbrev pub awaited : ℕ → ℕ → Bool
   awaited x a = setBy rows 4 x a
 
@@ -82,6 +83,10 @@ module _ (rows : List ℕ) where
 
   abbrev pub localOf : ℕ → ℕ
   localOf x = field rows 16 x
+
+  -- the R of x's semaphore; of an operation that writes for none itself
+  abbrev pub readOf : ℕ → ℕ
+  readOf x = field rows 17 x
 
 -- a word with some bits written anew
 abbrev pub merged : ℕ → ℕ → ℕ → ℕ
@@ -120,11 +125,11 @@ covers x w i = accesses (instructionAt (x .instructions) w) (8 * (getD (x .instr
 abbrev pub relative : ℕ → ℕ → ℕ
 relative byte initial = bitXor byte initial
 
--- bit i of what instruction w saw or wrote, in its line, relative to the initial bytes of the record
-unfoldable pub dataBit : List ℕ → Execution → ℕ → ℕ → Bool
-dataBit bytes x w i =
+-- bit i of instruction w's data from a place on, in its line, relative to the initial bytes of the record
+unfoldable pub dataBit : List ℕ → Execution → ℕ → ℕ → ℕ → Bool
+dataBit bytes x w from i =
     covers x w i
-    && bit (relative (getD (x .instructions .bytes) (8 * w + (i / 8 - getD (x .instructions .addresses) w 0 % 8)) 0)
+    && bit (relative (getD (x .instructions .bytes) (16 * w + from + (i / 8 - getD (x .instructions .addresses) w 0 % 8)) 0)
     (initialOf bytes (x .lines .count) (8 * (getD (x .instructions .addresses) w 0 / 8) + i / 8))) (i % 8)
 
 -- Words of memory: what is visible to processor p, line by line, and from 64 on what its own stores wrote.
@@ -151,6 +156,9 @@ module _ (x : Execution) (t : Operations) (marks : List (List ℕ)) (o : ℕ) wh
 
   abbrev pub role : ℕ
   role = getD (t .roles) o 0
+
+  abbrev pub kind : Kind
+  kind = kindOf (getD (x .instructions .kinds) owner 0)
 
   abbrev pub processor : ℕ
   processor = getD (x .instructions .processors) owner 0
@@ -181,14 +189,15 @@ module _ (x : Execution) (t : Operations) (marks : List (List ℕ)) (o : ℕ) wh
     pub awaited-are : (a : ℕ) → a < 128 → holds (row 4) (row 5) a ≡ anyBelow (x .instructions .count) (λ v. awaitedOf v a)
     pub bypasses-are : (a : ℕ) → a < 128 → holds (row 6) (row 7) a ≡ anyBelow (x .instructions .count) (λ v. bypassOf v a)
     pub writes-bits : (i : ℕ) → i < 64 → bit (row 8) i ≡ (writes role && covers x owner i)
-    pub writes-data : (i : ℕ) → i < 64 → bit (row 9) i ≡ (writes role && dataBit bytes x owner i)
+    pub writes-data : (i : ℕ) → i < 64 → bit (row 9) i ≡ (writes role && dataBit bytes x owner (writtenFrom kind) i)
     pub writes-word : writes role ≡ true → row 10 ≡ cond (eqb role 1) (ownAt processor line) (visibleAt (role - 3) line)
     pub reads-bits : (i : ℕ) → i < 64 → bit (row 11) i ≡ (eqb role 0 && covers x owner i)
-    pub reads-data : (i : ℕ) → i < 64 → bit (row 12) i ≡ (eqb role 0 && dataBit bytes x owner i)
+    pub reads-data : (i : ℕ) → i < 64 → bit (row 12) i ≡ (eqb role 0 && dataBit bytes x owner 0 i)
     pub reads-visible : role ≡ 0 → row 13 ≡ visibleAt processor line
     pub reads-own : role ≡ 0 → row 14 ≡ ownAt processor line
     pub own-is : row 15 ≡ cond (writes role) (RV-own (instructionAt (x .instructions) owner)) o
     pub local-is : row 16 ≡ cond (writes role) (numberOf (instructionAt (x .instructions) owner) LV) o
+    pub read-is : row 17 ≡ cond (writes role && isSemaphore kind) (numberOf (instructionAt (x .instructions) owner) R) o
 
 -- bytes are below 256
 abbrev pub Bytes : List ℕ → Type 0

@@ -46,8 +46,10 @@ pub const OWN: usize = 15;
 
 pub const LOCAL: usize = 16;
 
+pub const READ: usize = 17;
+
 // The words of a row, those of all rows, and the words of memory.
-pub const ROW: usize = 17;
+pub const ROW: usize = 18;
 
 pub const TABLE: usize = ROW * Position::LIMIT;
 
@@ -80,7 +82,7 @@ pub fn set_of(rows: &[u64; TABLE], x: OperationNo, f: usize) -> Set
     Set { lo, hi }
 }
 
-// Whether operation x must wait for operation m, which does not stand.
+// Whether operation x must wait for operation m; neither stands.
 fn waits_for(
     rows: &[u64; TABLE],
     places: &[u8; Position::LIMIT],
@@ -97,6 +99,10 @@ fn waits_for(
     }
     if own_m != m.0 {
         return false;
+    }
+    let read_m = field_of(rows, m, READ) as usize;
+    if before(places, OperationNo(read_m), x) {
+        return true;
     }
     if own_x != x.0 {
         return false;
@@ -127,7 +133,7 @@ fn waits_for_any(
     false
 }
 
-// Rules 9, 10 and 14: whether operation x must wait for an operation that does not stand. Mostly none is missing, so that is asked first.
+// Rules 9, 10, 14 and 16: whether operation x must wait for an operation that does not stand. Mostly none is missing, so that is asked first.
 pub fn is_refused(
     rows: &[u64; TABLE],
     places: &[u8; Position::LIMIT],

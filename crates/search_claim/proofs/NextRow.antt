@@ -15,14 +15,14 @@ use Rattle.base.specs.Lex.{lexLess}
 use Rattle.base.proofs.Bools.{beq-same, and-parts, is-false}
 use Rattle.base.proofs.Lists.{member-in, distinct-in}
 use Rattle.base.proofs.Tests.{all-at}
-use Rattle.model.specs.Execution.{roles, placeAmong, remotesAt, operationCount, operations, operationsOf, allOperations, loads, stores, attributes, lineAt, attributeAt}
-use Rattle.model.specs.Questions.{next, item, byte, ask, question2, question3, question4, question5, question6, question7, question8, question9, question11, question12, question15, many, lineOf, readLine, readLines, instructionOf, readInstruction, readProgram, readPrograms, readInstructions, readPairs, readRecord}
+use Rattle.model.specs.Execution.{roles, placeAmong, remotesAt, operationCount, operations, operationsOf, allOperations, loads, stores, semaphores, attributes, lineAt, attributeAt}
+use Rattle.model.specs.Questions.{next, item, byte, ask, question2, question3, question4, question5, question6, question7, question8, question26, question9, question11, question12, question15, many, lineOf, readLine, readLines, seenOf, wroteOf, instructionOf, readInstruction, readProgram, readPrograms, readInstructions, readPairs, readRecord}
 use Rattle.model.specs.ProgramOrder.{ruleMarks, marks}
-use Rattle.model.specs.Rules.{before, addresses, accesses, overlap, link1, link2, link3, link4, link5, link6, link7, paired, link8, link13, linksOf, conflict, forConflicts, rule9, rule10, sightOf, rule11, rule12, rule14, rules, linked, byteOf, latest, local, byteRead, broken, keeps, consistent}
+use Rattle.model.specs.Rules.{before, addresses, accesses, overlap, link1, link2, link3, link4, link5, link6, link7, paired, link8, link13, link15, linksOf, conflict, forConflicts, rule9, rule10, sightOf, rule11, rule12, rule14, rule16, rules, linked, byteOf, latest, local, byteRead, broken, keeps, consistent}
 use Rattle.model.specs.Calls.{says, answerOf, readAll}
 use Rattle.model.specs.Notation.{zeros, recordOf}
 use Rattle.model.specs.PaperTable.{k2}
-use Rattle.record_decoded.specs.Decoded.{eight, decodedLine, linesOf, initialOf, instructionAt, instructionsOf, pairsOf, executionOf}
+use Rattle.record_decoded.specs.Decoded.{dataOf, decodedLine, linesOf, initialOf, instructionAt, instructionsOf, pairsOf, executionOf}
 use Rattle.relation_links.specs.Operations.{operationAt, tableOf}
 use Rattle.relation_links.specs.Compiled.{CompiledIn}
 use Rattle.relation_marks.specs.Marks.{earlierOf, givenPair, marksOf, marksBetween}
@@ -77,7 +77,7 @@ places-are n xs places few different t = record { few = few; different = differe
 
 -- the record is accepted, and the arrays hold its execution
 accepts : readAll k2 ≡ says (executionOf k2 k2Arrays)
-unfolding all for count below member attributes roles operationCount next item byte ask question2 question3 question4 question5 question6 question7 question8 question9 question11 question12 question15 many lineOf readLine readLines instructionOf readInstruction readProgram readPrograms readInstructions readPairs readRecord answerOf readAll zeros recordOf k2 eight decodedLine linesOf instructionAt instructionsOf pairsOf executionOf k2Arrays
+unfolding all for count below member attributes roles operationCount next item byte ask question2 question3 question4 question5 question6 question7 question8 question26 question9 question11 question12 question15 many lineOf readLine readLines instructionOf readInstruction readProgram readPrograms readInstructions readPairs readRecord answerOf readAll zeros recordOf k2 dataOf seenOf wroteOf decodedLine linesOf instructionAt instructionsOf pairsOf executionOf k2Arrays
 accepts = refl
 
 -- the table of operations, and the marks
@@ -87,7 +87,7 @@ compiles = record { tabled = record { holds = refl; counts = refl }; marked = eq
 
 -- the row of each operation
 row-of : (o : ℕ) → o < 3 → RowOf k2Arrays k2Operations k2Marks o k2 (λ f. field k2Rows f o)
-unfolding any allBelow anyBelow operationCount operations roles remotesAt placeAmong stores keep count below attributeAt lineAt addresses accesses overlap link1 link2 link3 link4 link5 link6 link7 paired link8 link13 linked executionOf linesOf decodedLine instructionsOf instructionAt pairsOf operationAt holds partner covers dataBit awaitedBy k2Arrays k2Operations k2Marks k2Rows for initialOf zeros recordOf k2
+unfolding any allBelow anyBelow operationCount operations roles remotesAt placeAmong stores keep count below attributeAt lineAt addresses accesses overlap link1 link2 link3 link4 link5 link6 link7 paired link8 link13 link15 linked executionOf linesOf decodedLine instructionsOf instructionAt pairsOf operationAt holds partner covers dataBit awaitedBy k2Arrays k2Operations k2Marks k2Rows for initialOf zeros recordOf k2
 row-of zero h = record {
   preds-are = same _ _ 128 refl;
   partners-are = same _ _ 128 refl;
@@ -102,6 +102,7 @@ row-of zero h = record {
   reads-own = λ r. refl;
   own-is = refl;
   local-is = refl;
+  read-is = refl;
 }
 row-of (suc zero) h = record {
   preds-are = same _ _ 128 refl;
@@ -117,6 +118,7 @@ row-of (suc zero) h = record {
   reads-own = λ r. refl;
   own-is = refl;
   local-is = refl;
+  read-is = refl;
 }
 row-of (suc (suc zero)) h = record {
   preds-are = same _ _ 128 refl;
@@ -132,6 +134,7 @@ row-of (suc (suc zero)) h = record {
   reads-own = λ r. refl;
   own-is = refl;
   local-is = refl;
+  read-is = refl;
 }
 row-of (suc (suc (suc o))) h = absurd (omega arith)
 
@@ -147,7 +150,7 @@ rows-are = record {
 
 -- both prefixes are consistent
 both-consist : (consistent (executionOf k2 k2Arrays) (0 ∷ []) ≡ true) × (consistent (executionOf k2 k2Arrays) (0 ∷ 1 ∷ []) ≡ true)
-unfolding any keep when for count below member roles remotesAt placeAmong operationCount operations operationsOf allOperations loads stores lineAt attributeAt before addresses accesses overlap link1 link2 link3 link4 link5 link6 link7 paired link8 link13 linksOf conflict forConflicts rule9 rule10 sightOf rule11 rule12 rule14 rules byteOf latest local byteRead broken keeps consistent eight decodedLine linesOf instructionAt instructionsOf pairsOf executionOf k2Arrays zeros recordOf k2
+unfolding any keep when for count below member roles remotesAt placeAmong operationCount operations operationsOf allOperations loads stores semaphores lineAt attributeAt before addresses accesses overlap link1 link2 link3 link4 link5 link6 link7 paired link8 link13 link15 linksOf conflict forConflicts rule9 rule10 sightOf rule11 rule12 rule14 rule16 rules byteOf latest local byteRead broken keeps consistent dataOf seenOf wroteOf decodedLine linesOf instructionAt instructionsOf pairsOf executionOf k2Arrays zeros recordOf k2
 both-consist = (refl, refl)
 
 -- What is kept of 0 1

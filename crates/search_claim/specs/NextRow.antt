@@ -26,7 +26,7 @@ k2Arrays = record {
     addresses = replicate 40 0;
     sizes = 1 ∷ 1 ∷ replicate 38 0;
     firsts = 0 ∷ 2 ∷ replicate 38 0;
-    bytes = 1 ∷ replicate 319 0;
+    bytes = 1 ∷ replicate 639 0;
   };
   pairs = record { count = 0; earlier = replicate 40 0; later = replicate 40 0 };
 }
@@ -39,15 +39,15 @@ k2Operations = record { count = 3; owners = 0 ∷ 0 ∷ 1 ∷ replicate 125 0; r
 unfoldable pub k2Marks : List (List ℕ)
 k2Marks = (1 ∷ 16 ∷ []) ∷ (0 ∷ 1 ∷ []) ∷ []
 
--- A row of seventeen words for each operation (`search_admit/specs/Rows.antt`), then zeros: no more rows. K2's initial bytes are zero, and relative to them a
+-- A row of eighteen words for each operation (`search_admit/specs/Rows.antt`), then zeros: no more rows. K2's initial bytes are zero, and relative to them a
 -- byte is itself. Words 0 and 1 of a row: 0 must stand before 1 and before 2. Words 6 and 7: the R may read the byte of the store whose own RV is 1 before that
 -- stands. Words 8 to 10: the LV writes the byte 1 to word 64 of memory, the RV to word 0. Words 11 to 14: the R reads a byte, of which it saw 0, from word 0 or
--- 64. Words 15 and 16: of the LV and the RV both the own RV and the LV, of the R itself.
+-- 64. Words 15 and 16: of the LV and the RV both the own RV and the LV, of the R itself. Word 17: itself, since there is no semaphore.
 unfoldable pub k2Rows : List ℕ
 k2Rows =
-    (0 ∷ 0 ∷ 0 ∷ 0 ∷ 0 ∷ 0 ∷ 0 ∷ 0 ∷ 255 ∷ 1 ∷ 64 ∷ 0 ∷ 0 ∷ 0 ∷ 64 ∷ 1 ∷ 0 ∷ [])
-    ++ (1 ∷ 0 ∷ 0 ∷ 0 ∷ 0 ∷ 0 ∷ 0 ∷ 0 ∷ 255 ∷ 1 ∷ 0 ∷ 0 ∷ 0 ∷ 0 ∷ 64 ∷ 1 ∷ 0 ∷ [])
-    ++ (1 ∷ 0 ∷ 0 ∷ 0 ∷ 0 ∷ 0 ∷ 2 ∷ 0 ∷ 0 ∷ 0 ∷ 127 ∷ 255 ∷ 0 ∷ 0 ∷ 64 ∷ 2 ∷ 2 ∷ [])
+    (0 ∷ 0 ∷ 0 ∷ 0 ∷ 0 ∷ 0 ∷ 0 ∷ 0 ∷ 255 ∷ 1 ∷ 64 ∷ 0 ∷ 0 ∷ 0 ∷ 64 ∷ 1 ∷ 0 ∷ 0 ∷ [])
+    ++ (1 ∷ 0 ∷ 0 ∷ 0 ∷ 0 ∷ 0 ∷ 0 ∷ 0 ∷ 255 ∷ 1 ∷ 0 ∷ 0 ∷ 0 ∷ 0 ∷ 64 ∷ 1 ∷ 0 ∷ 1 ∷ [])
+    ++ (1 ∷ 0 ∷ 0 ∷ 0 ∷ 0 ∷ 0 ∷ 2 ∷ 0 ∷ 0 ∷ 0 ∷ 127 ∷ 255 ∷ 0 ∷ 0 ∷ 64 ∷ 2 ∷ 2 ∷ 2 ∷ [])
     ++ replicate (tableLength - 3 * rowLength) 0
 
 -- What the walk leaves at 0 1

@@ -15,7 +15,7 @@ use Rattle.base.proofs.Tests.{any-passes, some-at}
 use Rattle.model.specs.Execution as model
 use Rattle.model.specs.Execution.{kindOf, Role, F, roles, numberOf, Operation, operationsOf, allOperations}
 use Rattle.model.proofs.Numbers.{role-number}
-use Rattle.search_reduction.proofs.Ownership.{operationOf}
+use Rattle.model.proofs.Ownership.{operationOf}
 use Rattle.record_decoded.specs.Kinds.{roleNumbered}
 use Rattle.record_decoded.specs.declared.types.Execution.{Execution}
 use Rattle.record_decoded.specs.Decoded.{instructionAt, instructionsOf, executionOf}

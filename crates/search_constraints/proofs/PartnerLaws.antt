@@ -16,7 +16,7 @@ use Rattle.model.specs.Execution as model
 use Rattle.model.specs.Execution.{Kind, isStore, isRelease, Instruction, Role, R, LV, F, RV, roles, numberOf, stores, everyProcessor}
 use Rattle.model.specs.Rules.{inWB, remoteOf}
 use Rattle.model.specs.Accepted.{Accepted}
-use Rattle.search_reduction.proofs.Ownership.{RV-of, RV-in, one-owner, processor-in}
+use Rattle.model.proofs.Ownership.{RV-of, RV-in, one-owner, processor-in}
 use Rattle.record_decoded.specs.Kinds.{roleNumbered}
 use Rattle.record_decoded.specs.declared.types.Execution.{Execution}
 use Rattle.record_decoded.specs.Decoded.{instructionAt, executionOf}

@@ -12,11 +12,13 @@ ghost use Rattle.search_sets.specs.Set.{holds};
 ghost use Rattle.base.specs.Below.{anyBelow};
 ghost use Rattle.search_admit.specs.Rows.{awaitedBy};
 ghost use Rattle.relation_links.specs.Linked.{linkedBy};
-ghost use Rattle.search_constraints.specs.Rows.{isRemote, partnerOf, remoteLinked, linkedFrom, linkedOf, storesToLineBy};
+ghost use Rattle.search_constraints.specs.Rows.{isRemote, partnerOf, remoteLinked, secondLinked, linkedFrom, linkedOf, storesToLineBy};
 use record_decoded::kind::Kind;
+use record_decoded::kind::ROLE_LV;
 use record_decoded::kind::ROLE_R;
 use record_decoded::kind::ROLE_RV;
 use record_decoded::kind::Role;
+use record_decoded::kind::is_semaphore;
 use record_decoded::kind::is_store;
 use record_decoded::kind::kind_of;
 use record_decoded::kind::number_of;
@@ -95,6 +97,26 @@ fn is_unlinked(marks: u16, role: u8) -> bool
     }
 }
 
+// A set, with the LV of a semaphore, its second operation, where some rule links it to an operation with a role.
+fn with_second(
+    set: Set,
+    marks: u16,
+    kind: Kind,
+    processor: u8,
+    first: OperationNo,
+    role: u8,
+) -> Set
+    requires { ⌜ first .0 < 65536 ⌝ }
+    ensures { λ r. ⌜ ((a : ℕ) → a < 128 → holds (r .lo) (r .hi) a ≡ (holds (set .lo) (set .hi) a || secondLinked marks (meant kind) processor (first .0) role a)) ⌝ }
+{
+    if !is_semaphore(kind) {
+        return set;
+    }
+    let linked = is_linked(marks, processor, ROLE_LV, role);
+    let second = first.0 + 1;
+    insert_if(set, second, linked)
+}
+
 // A set, with the operations of an instruction that some rule links to an operation with a role, by the marks of the two instructions.
 fn with_linked(
     set: Set,
@@ -116,7 +138,8 @@ fn with_linked(
     if !is_store(kind) {
         return by_first;
     }
-    with_remotes(by_first, marks, processor, kind, first, processors, role)
+    let by_second = with_second(by_first, marks, kind, processor, first, role);
+    with_remotes(by_second, marks, processor, kind, first, processors, role)
 }
 
 // The operations that must stand before one of instruction w with a role, by the kinds, first operations and processors of n instructions.
@@ -192,7 +215,7 @@ fn with_awaited(
     insert_if(set, remote.0, has_mark(marks, CONFLICT))
 }
 
-// The operations for which one of instruction w with a role may have to wait by rules 9, 10 and 14.
+// The operations for which one of instruction w with a role may have to wait by rules 9, 10, 14 and 16.
 pub fn awaited_at<'a>(
     n: usize,
     kinds: &'a [u8; MOST_INSTRUCTIONS],

@@ -1,20 +1,21 @@
--- Rules 9, 10 and 14: the operations that one must wait for are those of the instructions that refuse it.
+-- Rules 9, 10, 14 and 16: the operations that one must wait for are those of the instructions that refuse it.
 use Prim.Native.Nat.{ℕ, _-_, _≤_, _<_}
 use native.Mathlib.Omega.{arith}
 use native.Mathlib.Decide.{ℕ-discrete}
-use mathlib.Core.Path.{_≡_, refl, sym, ap, _∙_}
-use mathlib.Core.Bool.{Bool, true, false, not, _&&_, _||_, or-false}
+use mathlib.Core.Path.{_≡_, refl, sym, ap, ap₂, _∙_}
+use mathlib.Core.Bool.{Bool, true, false, not, cond, _&&_, _||_, and-comm, and-false, or-false, false≢true}
 use mathlib.Core.List.{List}
 use lib.ListN.{getD}
 use lib.Dec.{eqb, leb, ltb}
 use borrow.Author.Tests.{eq-eqb, ne-eqb, eqb-true, le-leb, lt-leb, leb-true, leb-false}
 use Rattle.base.specs.Lists.{member}
 use Rattle.base.specs.Below.{anyBelow}
-use Rattle.base.proofs.Bools.{agree, split, clash, and-parts, and-both}
+use Rattle.base.proofs.Bools.{agree, split, clash, is-false, and-parts, and-both}
+use Rattle.base.proofs.Lists.{in-keep}
 use Rattle.base.proofs.Tests.{some-at, any-passes}
 use Rattle.model.specs.Execution as model
-use Rattle.model.specs.Execution.{Instruction, LV, RV, isStore, isLoad, numberOf, operations}
-use Rattle.model.specs.Rules.{RV-own}
+use Rattle.model.specs.Execution.{Attribute, WB, UC, WC, isWB, isUC, Instruction, R, LV, RV, isStore, isLoad, isSemaphore, numberOf, semaphores, operations, attributeAt}
+use Rattle.model.specs.Rules.{inUC, RV-own}
 use Rattle.model.specs.Accepted.{Accepted}
 use Rattle.record_decoded.specs.Decoded.{instructionAt, executionOf}
 use Rattle.record_decoded.proofs.RoleNumbers.{role-RV}
@@ -22,13 +23,14 @@ use Rattle.relation_places.specs.Places.{placed, Placed}
 use Rattle.relation_places.proofs.PlaceLaws.{member-placed, placed-absent}
 use Rattle.search_sets.specs.Set.{holds}
 use Rattle.relation_marks.specs.Marks.{hasMark, markAt}
-use Rattle.search_admit.specs.Rows.{ownOf, localOf, awaited, awaitedBy, awaitedOf, writes}
+use Rattle.search_admit.specs.Rows.{ownOf, localOf, readOf, awaited, awaitedBy, awaitedOf, writes}
 use Rattle.search_admit.specs.Fits.{Standing, waitsFor, refused}
-use Rattle.search_reduction.proofs.Ownership.{store-processor}
+use Rattle.model.proofs.Ownership.{store-processor}
+use Rattle.model.proofs.Uninterrupted.{semaphore-WB}
 use Rattle.search_meaning.proofs.Tables.{Tables, TablesMean}
-use Rattle.search_meaning.proofs.Owners.{number-is}
+use Rattle.search_meaning.proofs.Owners.{number-is, numbered-in}
 use Rattle.search_meaning.proofs.OperationRows.{RV-writes, IsRV, is-RV, own-by, local-by, own-itself, local-itself}
-use Rattle.search_meaning.proofs.Refusals.{missingBy, storeLost, loadLost, refusesBy, refusedBy}
+use Rattle.search_meaning.proofs.Refusals.{missingBy, storeLost, lockLost, loadLost, refusesBy, refusedBy}
 use Rattle.search_meaning.proofs.Demands.{conflict-mark, bypass-mark, store-in, remote-few, load-refusal, store-refusal}
 
 -- what an RV may wait for, by the two stores
@@ -99,6 +101,35 @@ store-same places q v w m x em ex = go (ℕ-discrete q (w .processor)) (ℕ-disc
         turned false false true = refl
         turned false false false = refl
 
+-- rule 16, by the semaphore: another store has no R
+none-locked : (places : List ℕ) (m : ℕ) (own : Bool) {r : ℕ} → r ≡ m → (missingBy places m && (own && ltb (placed places r) 255)) ≡ false
+none-locked places m own e = ap (λ (k : ℕ). missingBy places m && (own && ltb (placed places k) 255)) e ∙ go (ltb (placed places m) 255) own
+  where
+    go : (a b : Bool) → (not a && (b && a)) ≡ false
+    go true b = refl
+    go false true = refl
+    go false false = refl
+
+lock-same : (places : List ℕ) (q : ℕ) (v : Instruction) (m : ℕ) → m ≡ numberOf v (RV q) → {r : ℕ} → r ≡ cond (isSemaphore (v .kind)) (numberOf v R) m
+    → (missingBy places m && (eqb (RV-own v) m && ltb (placed places r) 255)) ≡ lockLost places q v
+unfolding lockLost
+lock-same places q v m em {r} er = split (isSemaphore (v .kind))
+    (λ k. go k (er ∙ rw k) (ℕ-discrete q (v .processor)))
+    (λ k. none-locked places m (eqb (RV-own v) m) (er ∙ rw k) ∙ rw k (sym (and-false (eqb q (v .processor)))))
+  where
+    go : isSemaphore (v .kind) ≡ true → r ≡ numberOf v R → Dec (q ≡ v .processor)
+        → (missingBy places m && (eqb (RV-own v) m && ltb (placed places r) 255))
+        ≡ (eqb q (v .processor) && (isSemaphore (v .kind) && (ltb (placed places (numberOf v R)) 255 && missingBy places (RV-own v))))
+    go k f (yes d) =
+        rw (eq-eqb (RV-own v) m (omega arith), eq-eqb q (v .processor) d, k, f, ap (missingBy places) (let z : RV-own v ≡ m = omega arith in z))
+        (and-comm (missingBy places m) (ltb (placed places (numberOf v R)) 255))
+    go k f (no d) = rw (ne-eqb (RV-own v) m (λ z. d (omega arith)), ne-eqb q (v .processor) d) (and-false (missingBy places m))
+
+WB-not-UC : (a : Attribute) → isWB a ≡ true → isUC a ≡ true → ⊥
+WB-not-UC WB w u = false≢true u
+WB-not-UC WC w u = false≢true w
+WB-not-UC (UC d) w u = false≢true w
+
 -- what an R may wait for, by the store
 load-same : (places : List ℕ) (v : Instruction) (m x : ℕ) → m ≡ RV-own v → placed places x ≡ 255
     → (missingBy places m && (ltb (placed places m) (placed places x) || eqb m m && (eqb x x && ltb (placed places (numberOf v LV)) (placed places x)))) ≡ loadLost places v
@@ -137,9 +168,22 @@ module _ {t : Tables} (h : TablesMean t) (accepted : Accepted (executionOf (t .b
   not-standing m l = ap not (standing m l ∙ member-placed p m)
 
   waits-is : (m : ℕ) {om ox lm lx : ℕ} → m < 128 → ownOf (t .rows) m ≡ om → ownOf (t .rows) x ≡ ox → localOf (t .rows) m ≡ lm → localOf (t .rows) x ≡ lx
-      → waits m ≡ (missingBy places m && (ltb (placed places om) (placed places ox) || eqb om m && (eqb ox x && ltb (placed places lm) (placed places lx))))
+      → waits m
+      ≡ ((missingBy places m && (ltb (placed places om) (placed places ox) || eqb om m && (eqb ox x && ltb (placed places lm) (placed places lx))))
+      || (missingBy places m && (eqb om m && ltb (placed places (readOf (t .rows) m)) 255)))
   unfolding waitsFor
-  waits-is m l a b c d = rw (not-standing m l, a, b, c, d) refl
+  waits-is m {om} {ox} {lm} {lx} l a b c d =
+      rw (not-standing m l, a, b, c, d, placed-absent p x new)
+      (sorted (missingBy places m) (ltb (placed places om) (placed places ox)) (eqb om m) (ltb (placed places (readOf (t .rows) m)) 255) (eqb ox x && ltb (placed places lm) (placed places lx)))
+    where
+      sorted : (s a o r b : Bool) → (s && (a || o && (r || b))) ≡ ((s && (a || o && b)) || (s && (o && r)))
+      sorted false a o r b = refl
+      sorted true true o r b = refl
+      sorted true false false r b = refl
+      sorted true false true true true = refl
+      sorted true false true true false = refl
+      sorted true false true false true = refl
+      sorted true false true false false = refl
 
   small : (o : ℕ) → o < operations e → o < 128
   small o l = omega (arith, accepted .operations-few)
@@ -156,11 +200,13 @@ module _ {t : Tables} (h : TablesMean t) (accepted : Accepted (executionOf (t .b
     pub awaited-low : m < 128
     awaited-low = small m (remote .low)
 
-    pub store-waits : waits m ≡ storeLost places (roleNumber - 3) (instruction v) (instruction owner)
+    pub store-waits : waits m ≡ (storeLost places (roleNumber - 3) (instruction v) (instruction owner) || lockLost places (roleNumber - 3) (instruction v))
     store-waits =
         waits-is m awaited-low (remote .own) (own-by h accepted x low (RV-writes roleNumber few)) (remote .local) (local-by h accepted x low (RV-writes roleNumber few))
-        ∙ store-same places (roleNumber - 3) (instruction v) (instruction owner) m x at
-        (sym (number-is h accepted x low) ∙ ap (numberOf (instruction owner)) (role-RV roleNumber few))
+        ∙ ap₂ _||_
+        (store-same places (roleNumber - 3) (instruction v) (instruction owner) m x at
+        (sym (number-is h accepted x low) ∙ ap (numberOf (instruction owner)) (role-RV roleNumber few)))
+        (lock-same places (roleNumber - 3) (instruction v) m at (remote .read))
 
   -- x is an R: a UC store
   module _ (v : ℕ) (lv : v < t .execution .instructions .count) (reads : roleNumber ≡ 0) (marked : hasMark (markAt (t .marks) v owner) 256 ≡ true) (m : ℕ)
@@ -176,6 +222,13 @@ module _ {t : Tables} (h : TablesMean t) (accepted : Accepted (executionOf (t .b
     pub bypass-low : m < 128
     bypass-low = small m (own-remote .low)
 
+    -- a UC store is no semaphore
+    not-semaphore : isSemaphore (instruction v .kind) ≡ false
+    unfolding semaphores
+    not-semaphore = is-false (isSemaphore (instruction v .kind)) (λ k.
+        let uc = and-parts (inUC e (instruction v)) _ (and-parts (isStore (instruction v .kind) && isLoad (instruction owner .kind)) _ (sym (bypass-mark h accepted x low p new v lv) ∙ marked) .1) .0 in
+        WB-not-UC (attributeAt e (instruction v)) (semaphore-WB e accepted (in-keep (λ i. isSemaphore (i .kind)) (numbered-in t v lv) k)) uc)
+
     -- an R has no other operation
     itself : writes roleNumber ≡ false
     itself = rw reads refl
@@ -183,7 +236,8 @@ module _ {t : Tables} (h : TablesMean t) (accepted : Accepted (executionOf (t .b
     pub load-waits : waits m ≡ loadLost places (instruction v)
     load-waits =
         waits-is m bypass-low (own-remote .own ∙ sym at) (own-itself h accepted x low itself) (own-remote .local) (local-itself h accepted x low itself)
-        ∙ load-same places (instruction v) m x at (placed-absent p x new)
+        ∙ ap₂ _||_ (load-same places (instruction v) m x at (placed-absent p x new)) (none-locked places m (eqb m m) (own-remote .read ∙ rw not-semaphore))
+        ∙ or-false (loadLost places (instruction v))
 
   abbrev awaitedAt : ℕ → ℕ → Bool
   awaitedAt v m = awaitedOf (t .execution) (t .operations) (t .marks) x v m
@@ -243,7 +297,7 @@ module _ {t : Tables} (h : TablesMean t) (accepted : Accepted (executionOf (t .b
       let few = leb-true 3 roleNumber s in
       let other : roleNumber ≡ 0 → ⊥ = λ u. clash (eq-eqb roleNumber 0 u) z in
       let m = numberOf (instruction v) (RV (roleNumber - 3)) in
-      let (k, q) = and-parts (hasMark (markAt (t .marks) v owner) 128) (storeLost places (roleNumber - 3) (instruction v) (instruction owner)) (sym (store-refusal h accepted x low p new v other few) ∙ r) in
+      let (k, q) = and-parts (hasMark (markAt (t .marks) v owner) 128) _ (sym (store-refusal h accepted x low p new v other few) ∙ r) in
       awaited-there v m l (awaited-low v l few k m refl) (awaited-store v m other few ∙ and-both k (eq-eqb m m refl)) (store-waits v l few k m refl ∙ q))
       (λ s. clash r (refusal-none v (λ u. clash (eq-eqb roleNumber 0 u) z) (leb-false 3 roleNumber s))))
 

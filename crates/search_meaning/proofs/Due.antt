@@ -9,21 +9,19 @@ use borrow.Author.Tests.{eq-eqb, ne-eqb, lt-ltb, not-true}
 use Rattle.base.specs.Lists.{any, member, distinct}
 use Rattle.base.specs.Below.{allBelow}
 use Rattle.base.proofs.Bools.{split, clash, is-false, and-parts, and-both, or-right}
-use Rattle.base.proofs.Lists.{any-witness, any-member, in-keep, in-for, in-below, member-in, in-member, member-append, distinct-entry}
+use Rattle.base.proofs.Lists.{any-witness, any-member, any-fails, in-keep, in-for, in-below, member-in, in-member, member-append, distinct-entry}
 use Rattle.base.proofs.Tests.{all-fails, all-below}
 use Rattle.model.specs.Execution as model
 use Rattle.model.specs.Execution.{Instruction, isRelease, stores, operations}
 use Rattle.model.specs.Rules.{before, inWB, Claim, never, remoteOf, rule12, rules, broken, consistent}
 use Rattle.model.specs.Accepted.{Accepted}
 use Rattle.model.proofs.Roles.{RV-role}
-use Rattle.model.proofs.Before.{before-stays}
+use Rattle.model.proofs.Before.{before-absent, before-stays}
+use Rattle.model.proofs.Consistent.{kept}
 use Rattle.record_decoded.specs.Decoded.{executionOf}
 use Rattle.search_sets.specs.Set.{holds}
 use Rattle.search_reduction.specs.Admits.{missing, interrupts}
-use Rattle.search_reduction.proofs.Pairs.{any-fails}
-use Rattle.search_reduction.proofs.Settled.{before-absent}
-use Rattle.search_reduction.proofs.Links.{kept}
-use Rattle.search_reduction.proofs.Ownership.{RV-of, is-store, RV-in, one-owner}
+use Rattle.model.proofs.Ownership.{RV-of, is-store, RV-in, one-owner}
 use Rattle.search_admit.specs.Rows.{partner, partnerBy}
 use Rattle.search_meaning.proofs.Tables.{Tables, TablesMean}
 use Rattle.search_meaning.proofs.Owners.{number-low}

@@ -2,20 +2,20 @@
 use Prim.Native.Nat.{ℕ, _+_, _-_, _≤_, _<_}
 use native.Mathlib.Omega.{arith}
 use mathlib.Core.Path.{_≡_, sym, ap, _∙_}
-use mathlib.Core.Bool.{Bool, true, false, cond, _||_, or-true}
+use mathlib.Core.Bool.{Bool, true, false, cond, _&&_, _||_, or-true}
 use mathlib.Core.List.{List·Memᴰ}
 use lib.ListN.{getD}
 use lib.Dec.{eqb}
 use borrow.Author.Tests.{le-leb}
 use Rattle.model.specs.Execution as model
-use Rattle.model.specs.Execution.{Instruction, LV, RV, numberOf, stores, operations}
+use Rattle.model.specs.Execution.{isSemaphore, Instruction, R, LV, RV, numberOf, stores, operations}
 use Rattle.model.specs.Rules.{RV-own}
 use Rattle.model.specs.Accepted.{Accepted}
 use Rattle.model.proofs.Roles.{RV-role}
 use Rattle.record_decoded.specs.Decoded.{instructionAt, executionOf}
 use Rattle.record_decoded.proofs.RoleNumbers.{number-RV}
-use Rattle.search_reduction.proofs.Ownership.{is-store, RV-in}
-use Rattle.search_admit.specs.Rows.{ownOf, localOf, writes}
+use Rattle.model.proofs.Ownership.{is-store, RV-in}
+use Rattle.search_admit.specs.Rows.{ownOf, localOf, readOf, writes}
 use Rattle.search_meaning.proofs.Tables.{Tables, TablesMean}
 use Rattle.search_meaning.proofs.Owners.{owner-is, number-low}
 
@@ -43,6 +43,7 @@ module _ {t : Tables} (h : TablesMean t) (accepted : Accepted (executionOf (t .b
     pub role-is : roleOf o ≡ 3 + q
     pub own : ownOf (t .rows) o ≡ RV-own w
     pub local : localOf (t .rows) o ≡ numberOf w LV
+    pub read : readOf (t .rows) o ≡ cond (isSemaphore (w .kind)) (numberOf w R) o
 
   -- what writes, by its owner
   pub own-by : (o : ℕ) → o < operations e → writes (roleOf o) ≡ true → ownOf (t .rows) o ≡ RV-own (instruction (owner o))
@@ -50,6 +51,12 @@ module _ {t : Tables} (h : TablesMean t) (accepted : Accepted (executionOf (t .b
 
   pub local-by : (o : ℕ) → o < operations e → writes (roleOf o) ≡ true → localOf (t .rows) o ≡ numberOf (instruction (owner o)) LV
   local-by o l w = h .rowed o l .local-is ∙ ap (λ (b : Bool). cond b (numberOf (instruction (owner o)) LV) o) w
+
+  read-by : (o : ℕ) → o < operations e → writes (roleOf o) ≡ true
+      → readOf (t .rows) o ≡ cond (isSemaphore (instruction (owner o) .kind)) (numberOf (instruction (owner o)) R) o
+  unfolding instructionAt
+  read-by o l w =
+      h .rowed o l .read-is ∙ ap (λ (b : Bool). cond (b && isSemaphore (instruction (owner o) .kind)) (numberOf (instruction (owner o)) R) o) w
 
   -- what does not write is alone
   pub own-itself : (o : ℕ) → o < operations e → writes (roleOf o) ≡ false → ownOf (t .rows) o ≡ o
@@ -71,4 +78,5 @@ module _ {t : Tables} (h : TablesMean t) (accepted : Accepted (executionOf (t .b
         role-is = number;
         own = own-by o low written ∙ ap RV-own (sym same);
         local = local-by o low written ∙ ap (λ (i : Instruction). numberOf i LV) (sym same);
+        read = read-by o low written ∙ ap (λ (i : Instruction). cond (isSemaphore (i .kind)) (numberOf i R) o) (sym same);
       }

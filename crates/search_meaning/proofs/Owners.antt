@@ -14,7 +14,7 @@ use Rattle.record_decoded.specs.Kinds.{roleNumbered}
 use Rattle.record_decoded.specs.Decoded.{instructionAt, instructionsOf, executionOf}
 use Rattle.relation_links.specs.Operations.{operationAt, tableOf}
 use Rattle.relation_links.proofs.CompiledLaws as compiled
-use Rattle.search_reduction.proofs.Ownership.{one-owner}
+use Rattle.model.proofs.Ownership.{one-owner}
 use Rattle.search_meaning.proofs.Tables.{Tables, TablesMean}
 
 -- two operations of one instruction with one number have one role

@@ -1,11 +1,11 @@
--- Rules 9, 10 and 14 by instruction: which instructions refuse an operation.
+-- Rules 9, 10, 14 and 16 by instruction: which instructions refuse an operation.
 use Prim.Native.Nat.{ℕ, _-_}
 use mathlib.Core.Bool.{Bool, false, not, cond, _&&_, _||_}
 use mathlib.Core.List.{List}
 use lib.ListN.{getD}
 use lib.Dec.{eqb, leb, ltb}
 use Rattle.base.specs.Below.{anyBelow}
-use Rattle.model.specs.Execution.{Instruction, LV, RV, numberOf}
+use Rattle.model.specs.Execution.{isSemaphore, Instruction, R, LV, RV, numberOf}
 use Rattle.model.specs.Rules.{RV-own}
 use Rattle.record_decoded.specs.declared.types.Instructions.{Instructions}
 use Rattle.record_decoded.specs.Decoded.{instructionAt}
@@ -24,6 +24,10 @@ module _ (places : List ℕ) where
       beforeBy places (RV-own v) (RV-own w) && missingBy (numberOf v (RV q))
       || eqb q (w .processor) && (eqb (v .processor) (w .processor) && (beforeBy places (numberOf v LV) (numberOf w LV) && missingBy (RV-own v)))
 
+  -- rule 16 for the RV to q of a store: semaphore v is of processor q, and its R stands, its own RV does not
+  unfoldable pub lockLost : ℕ → Instruction → Bool
+  lockLost q v = eqb q (v .processor) && (isSemaphore (v .kind) && (ltb (placed places (numberOf v R)) 255 && missingBy (RV-own v)))
+
   -- rule 14 for a load: the LV of v stands, its own RV does not
   unfoldable pub loadLost : Instruction → Bool
   loadLost v = ltb (placed places (numberOf v LV)) 255 && missingBy (RV-own v)
@@ -32,7 +36,7 @@ module _ (places : List ℕ) where
   unfoldable pub refusesBy : Instructions → List (List ℕ) → ℕ → ℕ → ℕ → Bool
   refusesBy is marks role w v =
       cond (eqb role 0) (hasMark (markAt marks v w) 256 && loadLost (instructionAt is v))
-      (cond (leb 3 role) (hasMark (markAt marks v w) 128 && storeLost (role - 3) (instructionAt is v) (instructionAt is w)) false)
+      (cond (leb 3 role) (hasMark (markAt marks v w) 128 && (storeLost (role - 3) (instructionAt is v) (instructionAt is w) || lockLost (role - 3) (instructionAt is v))) false)
 
   -- some instruction refuses operation x
   unfoldable pub refusedBy : Instructions → Operations → List (List ℕ) → ℕ → Bool

@@ -12,7 +12,7 @@ use Rattle.base.specs.Lists.{any, keep, count, member, distinct}
 use Rattle.base.specs.Below.{allBelow, anyBelow}
 use Rattle.base.specs.Bits.{bit}
 use Rattle.base.proofs.Bools.{agree, split, clash, is-false, and-parts, and-both}
-use Rattle.base.proofs.Lists.{any-witness, any-member, any-map, any-keep, any-for, any-when, in-keep, of-keep, in-count, of-count, keep-map, map-map, distinct-in}
+use Rattle.base.proofs.Lists.{any-witness, any-member, any-map, any-keep, any-for, any-when, in-keep, of-keep, keep-map, map-map, distinct-in}
 use Rattle.base.proofs.Tests.{some-at, any-passes, all-at, all-below}
 use Rattle.model.specs.Execution as model
 use Rattle.model.specs.Execution.{Instruction, Role, R, LV, RV, isLoad, isStore, roles, numberOf, stores, loads, operations, initialByte}
@@ -20,10 +20,11 @@ use Rattle.model.specs.Rules.{RV-own, accesses, addresses, byteWritten, byteSee
 use Rattle.model.specs.Accepted.{Accepted, Sound}
 use Rattle.model.proofs.Roles.{R-role, R-load}
 use Rattle.model.proofs.Numbers.{before-remotes}
+use Rattle.model.proofs.Accesses.{of-reach, in-reach, Within}
 use Rattle.record_decoded.specs.Decoded.{instructionAt, executionOf}
 use Rattle.record_decoded.proofs.RoleNumbers.{number-R, role-R}
 use Rattle.search_reduction.specs.Admits.{lastByte, missing, byteNow, unseen, sights}
-use Rattle.search_reduction.proofs.Ownership.{each-in, is-store, is-load, store-processor}
+use Rattle.model.proofs.Ownership.{each-in, is-store, is-load, store-processor}
 use Rattle.search_sets.specs.Set.{holds}
 use Rattle.search_sets.proofs.Laws.{zero-has}
 use Rattle.search_admit.specs.Rows.{bypasses, bypassOf, writtenBits, localOf, readBits, readData, visibleWord, ownWord, visibleAt, ownAt, covers, relative, dataBit, firstWords, wordsAfter}
@@ -31,7 +32,7 @@ use Rattle.search_admit.specs.Fits.{bothOrNeither, pending, localBit, readsReco
 use Rattle.search_meaning.proofs.Tables.{Tables, TablesMean}
 use Rattle.search_meaning.proofs.Owners.{role-in, owner-in, owner-is, number-is, by-number, numbered-in}
 use Rattle.search_meaning.proofs.OperationRows.{RV-writes, IsRV, is-RV}
-use Rattle.search_meaning.proofs.Bytes.{Within, same-byte, accesses-within, covers-is, data-is, byte-small, initial-small, same-relative}
+use Rattle.search_meaning.proofs.Bytes.{same-byte, accesses-within, covers-is, seen-bit-is, seen-small, wrote-small, initial-small, same-relative}
 use Rattle.search_meaning.proofs.Words.{last-below, words-are}
 use Rattle.search_meaning.proofs.Sources.{visible-does, own-does}
 
@@ -46,17 +47,6 @@ same-refl : (a b : Bool) → a ≡ b → bothOrNeither a b ≡ true
 unfolding bothOrNeither
 same-refl true b h = sym h
 same-refl false b h = ap not (sym h)
-
--- the bytes of an access
-of-reach : (i : Instruction) (b : ℕ) → List·Memᴰ b (addresses i) → accesses i b ≡ true
-unfolding addresses accesses
-of-reach i b m = let (l, r) = of-count (i .address) (i .size) m in and-both (le-leb (i .address) b l) (lt-ltb b (i .address + i .size) r)
-
-in-reach : (i : Instruction) (b : ℕ) → accesses i b ≡ true → List·Memᴰ b (addresses i)
-unfolding addresses accesses
-in-reach i b h =
-    let (l, r) = and-parts (leb (i .address) b) (ltb b (i .address + i .size)) h in
-    in-count (i .address) (i .size) b (leb-true (i .address) b l) (ltb-true b (i .address + i .size) r)
 
 module _ {t : Tables} (h : TablesMean t) (accepted : Accepted (executionOf (t .bytes) (t .execution))) (x : ℕ) (low : x < operations (executionOf (t .bytes) (t .execution)))
     (xs : List ℕ) (different : distinct (operations (executionOf (t .bytes) (t .execution))) [] xs ≡ true) (lo hi : ℕ) (standing : Standing xs lo hi) where
@@ -80,6 +70,11 @@ module _ {t : Tables} (h : TablesMean t) (accepted : Accepted (executionOf (t .b
 
   here : List·Memᴰ load (e .instructions)
   here = owner-in h accepted x low
+
+  -- an R is a load's
+  reads-load : role ≡ 0 → isLoad (load .kind) ≡ true
+  reads-load reads =
+      R-load (e .processors) (load .kind) (subst (λ (r : Role). List·Memᴰ r (roles (e .processors) (load .kind))) (role-R role reads) (role-in h accepted x low))
 
   few : load .processor < e .processors
   few = each-in (Sound (e .processors) (length (e .lines))) (accepted .sound) here .own
@@ -264,8 +259,8 @@ module _ {t : Tables} (h : TablesMean t) (accepted : Accepted (executionOf (t .b
     -- and so is the recorded one
     pub recorded-bit : bit (readData (t .rows) x) i ≡ of (byteSeen load b)
     recorded-bit =
-        h .rowed x low .reads-data i small ∙ ap (λ (u : Bool). u && dataBit (t .bytes) (t .execution) owner i) (eq-eqb role 0 reads)
-        ∙ data-is (t .bytes) (t .execution) accepted owner b i k its reads-b at bits
+        h .rowed x low .reads-data i small ∙ ap (λ (u : Bool). u && dataBit (t .bytes) (t .execution) owner 0 i) (eq-eqb role 0 reads)
+        ∙ seen-bit-is (t .bytes) (t .execution) accepted owner b i k its reads-b at bits (reads-load reads)
 
     pub read-bit : bit (readBits (t .rows) x) i ≡ true
     read-bit =
@@ -294,7 +289,8 @@ module _ {t : Tables} (h : TablesMean t) (accepted : Accepted (executionOf (t .b
           let (ms, reach) = of-keep (λ w. accesses w b) (stores e) mw in
           let (v, l, r) = by-number t (is-store e ms .0) in
           subst (λ (z : Writer). z .wrote < 256) q (subst (λ (i : Instruction). byteWritten i b < 256) r
-          (byte-small (t .bytes) (t .execution) accepted (h .data-bytes) v b (accesses-within (t .bytes) (t .execution) accepted v b (numbered-in t v l) (ap (λ (i : Instruction). accesses i b) r ∙ reach))))
+          (wrote-small (t .bytes) (t .execution) accepted (h .data-bytes) v b (accesses-within (t .bytes) (t .execution) accepted v b (numbered-in t v l) (ap (λ (i : Instruction). accesses i b) r ∙ reach))
+          (ap (λ (i : Instruction). isStore (i .kind)) r ∙ is-store e ms .1)))
 
       by : (u : Bool) {a c : ℕ} → a < 256 → c < 256 → cond u a c < 256
       by true p q = p
@@ -318,7 +314,7 @@ module _ {t : Tables} (h : TablesMean t) (accepted : Accepted (executionOf (t .b
   byte-agrees : role ≡ 0 → allBelow 64 agrees ≡ true → (b : ℕ) → accesses load b ≡ true → byteNow e x xs (sightOf e load b) ≡ byteSeen load b
   byte-agrees reads all b reads-b =
       same-byte (byteNow e x xs (sightOf e load b)) (byteSeen load b) (now-small b reads-b)
-      (byte-small (t .bytes) (t .execution) accepted (h .data-bytes) owner b (accesses-within (t .bytes) (t .execution) accepted owner b here reads-b))
+      (seen-small (t .bytes) (t .execution) accepted (h .data-bytes) owner b (accesses-within (t .bytes) (t .execution) accepted owner b here reads-b) (reads-load reads))
       (λ k l.
       let i = bitOf b k in
       let at : i / 8 ≡ b % 8 = omega arith in
@@ -340,7 +336,7 @@ module _ {t : Tables} (h : TablesMean t) (accepted : Accepted (executionOf (t .b
   seen-in : role ≡ 0 → (b : ℕ) → accesses load b ≡ true → any (unseen e x xs) (sights e x) ≡ false → byteNow e x xs (sightOf e load b) ≡ byteSeen load b
   unfolding sights loads
   seen-in reads b reads-b none =
-      let is-load : isLoad (load .kind) ≡ true = R-load (e .processors) (load .kind) (subst (λ (r : Role). List·Memᴰ r (roles (e .processors) (load .kind))) (role-R role reads) (role-in h accepted x low)) in
+      let is-load = reads-load reads in
       let number : x ≡ numberOf load R = sym (number-is h accepted x low) ∙ ap (numberOf load) (role-R role reads) in
       split (eqb (byteNow e x xs (sightOf e load b)) (sightOf e load b .seen))
       (λ q. eqb-true _ _ q ∙ seen-is b)

@@ -9,10 +9,11 @@ use lib.Dec.{eqb, leb}
 use borrow.Author.Tests.{eq-eqb, ne-eqb, eqb-true, leb-true}
 use Rattle.base.specs.Lists.{any, keep}
 use Rattle.base.specs.Bits.{bit}
-use Rattle.base.proofs.Bools.{agree, split, clash, is-false, and-parts, and-both}
+use Rattle.base.proofs.Bools.{agree, split, clash, is-false, and-parts, and-both, or-cases}
 use Rattle.base.proofs.Lists.{any-witness, any-member, any-map, any-keep, of-keep, in-keep}
 use Rattle.model.specs.Execution as model
 use Rattle.model.specs.Execution.{Instruction, Role, LV, RV, isStore, roles, numberOf, stores, operations, initialByte}
+use Rattle.model.specs.Questions.{writtenFrom}
 use Rattle.model.specs.Rules.{accesses, byteWritten}
 use Rattle.model.specs.Accepted.{Accepted, Sound}
 use Rattle.model.proofs.Roles.{LV-role, RV-role, LV-store, RV-store, RV-few}
@@ -20,11 +21,11 @@ use Rattle.record_decoded.specs.Kinds.{roleNumbered}
 use Rattle.record_decoded.specs.Decoded.{instructionAt, executionOf}
 use Rattle.record_decoded.proofs.RoleNumbers.{number-LV, role-LV, number-RV, role-RV}
 use Rattle.search_admit.specs.Rows.{writtenBits, writtenData, writtenWord, visibleAt, ownAt, covers, relative, dataBit, writes}
-use Rattle.search_reduction.proofs.Ownership.{each-in, is-store}
+use Rattle.model.proofs.Ownership.{each-in, is-store}
 use Rattle.search_meaning.proofs.Tables.{Tables, TablesMean}
 use Rattle.search_meaning.proofs.Owners.{role-in, owner-in, owner-is, number-is}
 use Rattle.search_meaning.proofs.OperationRows.{RV-writes}
-use Rattle.search_meaning.proofs.Bytes.{accesses-within, covers-is, data-is}
+use Rattle.search_meaning.proofs.Bytes.{accesses-within, covers-is, wrote-bit-is}
 use Rattle.search_meaning.proofs.Words.{byte-is, Does}
 
 -- what writes is an LV or an RV
@@ -79,7 +80,8 @@ module _ {t : Tables} (h : TablesMean t) (accepted : Accepted (executionOf (t .b
     bits-are : bit (writtenBits (t .rows) o) i ≡ (writes role && covers (t .execution) owner i)
     bits-are = h .rowed o low .writes-bits i small
 
-    data-are : bit (writtenData (t .rows) o) i ≡ (writes role && dataBit (t .bytes) (t .execution) owner i)
+    data-are : bit (writtenData (t .rows) o) i ≡ (writes role && dataBit (t .bytes) (t .execution) owner (writtenFrom (its .kind)) i)
+    unfolding instructionAt
     data-are = h .rowed o low .writes-data i small
 
     abbrev wordAt : ℕ → ℕ
@@ -98,6 +100,13 @@ module _ {t : Tables} (h : TablesMean t) (accepted : Accepted (executionOf (t .b
     remote-low : 3 ≤ role → role - 3 < 8
     remote-low r =
         omega (arith, accepted .processors-few, RV-few (e .processors) _ (its .kind) (subst (λ (s : Role). List·Memᴰ s (roles (e .processors) (its .kind))) (role-RV role r) its-role))
+
+    -- what writes is a store's
+    writes-store : writes role ≡ true → isStore (its .kind) ≡ true
+    writes-store w =
+        or-cases (eqb role 1) (leb 3 role) w
+        (λ u. LV-store (e .processors) (its .kind) (subst (λ (s : Role). List·Memᴰ s (roles (e .processors) (its .kind))) (ap roleNumbered (eqb-true role 1 u)) its-role))
+        (λ u. RV-store (e .processors) (role - 3) (its .kind) (subst (λ (s : Role). List·Memᴰ s (roles (e .processors) (its .kind))) (role-RV role (leb-true 3 role u)) its-role))
 
     -- what is written, where a test of the operation says that it writes this byte to word c
     module _ (c : ℕ) (wanted : Bool)
@@ -125,15 +134,15 @@ module _ {t : Tables} (h : TablesMean t) (accepted : Accepted (executionOf (t .b
       unfolding dataBit
       leaves miss = is-false _ (λ u.
           let (u1, u2) = and-parts (eqb (writtenWord (t .rows) o) c) (bit (writtenData (t .rows) o) i) u in
-          let (u3, u4) = and-parts (writes role) (dataBit (t .bytes) (t .execution) owner i) (sym data-are ∙ u2) in
+          let (u3, u4) = and-parts (writes role) (dataBit (t .bytes) (t .execution) owner (writtenFrom (its .kind)) i) (sym data-are ∙ u2) in
           let (u5, u6) = and-parts (covers (t .execution) owner i) _ u4 in
           clash (sym touches ∙ and-both u1 (bits-are ∙ and-both u3 u5)) miss)
 
       puts : hit ≡ true → bit (writtenData (t .rows) o) i ≡ of (byteWritten its b)
       puts u =
           let (u1, u2) = and-parts wanted (accesses its b) u in
-          data-are ∙ ap (λ (v : Bool). v && dataBit (t .bytes) (t .execution) owner i) (match u1 .0)
-          ∙ data-is (t .bytes) (t .execution) accepted owner b i k (accesses-within (t .bytes) (t .execution) accepted owner b here u2) u2 at bits
+          data-are ∙ ap (λ (v : Bool). v && dataBit (t .bytes) (t .execution) owner (writtenFrom (its .kind)) i) (match u1 .0)
+          ∙ wrote-bit-is (t .bytes) (t .execution) accepted owner b i k (accesses-within (t .bytes) (t .execution) accepted owner b here u2) u2 at bits (writes-store (match u1 .0))
 
     its-store : isStore (its .kind) ≡ true → List·Memᴰ its (stores e)
     unfolding stores

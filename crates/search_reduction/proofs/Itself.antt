@@ -9,16 +9,17 @@ use borrow.Author.Tests.{eqb-true, eqb-false, ne-eqb, ltb-true, not-true}
 use Rattle.base.specs.Lists.{any}
 use Rattle.base.proofs.Bools.{split, and-parts, and-left, or-cases}
 use Rattle.base.proofs.Lists.{any-same, any-witness, of-for}
-use Rattle.model.specs.Execution.{Instruction, Execution, Role, R, LV, F, RV, roles, remotesAt, numberOf, Operation, operationsOf, allOperations, hasRoleLV, hasRoleRV}
-use Rattle.model.specs.Rules.{isLV, isOwnRV, isOtherRV, sameInstruction, earlier, link1, link2, link3, link4, link5, link6, link7, paired, link8, link13, linksOf, linked}
+use Rattle.model.specs.Execution.{Instruction, Execution, Role, R, LV, F, RV, roles, remotesAt, numberOf, Operation, operationsOf, allOperations, hasRoleR, hasRoleLV, hasRoleRV}
+use Rattle.model.specs.Rules.{isR, isLV, isOwnRV, isOtherRV, sameInstruction, earlier, link1, link2, link3, link4, link5, link6, link7, paired, link8, link13, link15, linksOf, linked}
 use Rattle.model.specs.Accepted.{Rises, Accepted}
-use Rattle.model.proofs.Numbers.{before-remotes}
+use Rattle.model.proofs.Numbers.{remotes-at, R-place, LV-place, before-remotes}
+use Rattle.model.proofs.Roles.{R-load, LV-store}
 use Rattle.search_reduction.specs.Admits.{unready}
 use Rattle.search_reduction.proofs.Newly.{settles}
-use Rattle.search_reduction.proofs.Ownership.{each-in, operationOf, one-owner}
+use Rattle.model.proofs.Ownership.{each-in, operationOf, one-owner}
 use Rattle.search_reduction.proofs.Links.{any-links}
 
--- the roles of rule 1
+-- the roles of rules 1 and 15
 no-RV : (r : Role) → hasRoleLV r ≡ true → hasRoleRV r (λ _. true) ≡ false
 no-RV R h = refl
 no-RV LV h = refl
@@ -36,6 +37,18 @@ other-role p R h = absurd (false≢true h)
 other-role p LV h = absurd (false≢true h)
 other-role p F h = absurd (false≢true h)
 other-role p (RV q) h = (q, refl, eqb-false q p (not-true (eqb q p) h))
+
+R-role-is : (r : Role) → hasRoleR r ≡ true → r ≡ R
+R-role-is R h = refl
+R-role-is LV h = absurd (false≢true h)
+R-role-is F h = absurd (false≢true h)
+R-role-is (RV q) h = absurd (false≢true h)
+
+LV-role-is : (r : Role) → hasRoleLV r ≡ true → r ≡ LV
+LV-role-is R h = absurd (false≢true h)
+LV-role-is LV h = refl
+LV-role-is F h = absurd (false≢true h)
+LV-role-is (RV q) h = absurd (false≢true h)
 
 module _ (e : Execution) (accepted : Accepted e) where
   abbrev Belongs : Operation → Type 0
@@ -97,10 +110,29 @@ module _ (e : Execution) (accepted : Accepted e) where
         let n = one-number in
         omega (arith, each-in Rises (accepted .rising) mp)
 
+    -- a kind with R and LV is a semaphore's, and LV comes second
+    not-15 : link15 a b ≡ true → ⊥
+    unfolding link15
+    not-15 h =
+        let (ia, ra, na) = belongs ma in
+        let (ib, rb, nb) = belongs mb in
+        let (t0, t1) = and-parts (isR a) (isLV b) (and-parts (sameInstruction a b) (isR a && isLV b) h .1) in
+        let reads = R-role-is (a .role) t0 in
+        let writes = LV-role-is (b .role) t1 in
+        let k = a .instruction .kind in
+        let loads = R-load (e .processors) k (subst (λ (r : Role). List·Memᴰ r (roles (e .processors) k)) reads ra) in
+        let stores = LV-store (e .processors) k (subst (λ (i : Instruction). List·Memᴰ LV (roles (e .processors) (i .kind))) (sym one) (subst (λ (r : Role). List·Memᴰ r (roles (e .processors) (b .instruction .kind))) writes rb)) in
+        let two : remotesAt k ≡ 2 = remotes-at k ∙ rw (loads, stores) in
+        let na′ = ap (numberOf (a .instruction)) reads in
+        let nb′ = ap (numberOf (b .instruction)) writes in
+        let same-LV = ap (λ (i : Instruction). numberOf i LV) one in
+        omega (arith, R-place k, LV-place k)
+
     not-linked : linked e a b ≡ true → ⊥
     unfolding linked link2 link3 link4 link5 link6 link7 link13
     not-linked h =
-        or-cases _ (link13 e a b) h
+        or-cases _ (link15 a b) h
+        (λ h. or-cases _ (link13 e a b) h
         (λ h. or-cases _ (link8 e a b) h
         (λ h. or-cases _ (link7 a b) h
         (λ h. or-cases _ (link6 a b) h
@@ -114,7 +146,8 @@ module _ (e : Execution) (accepted : Accepted e) where
         (λ h. not-earlier (and-left _ _ (and-left _ _ h))))
         (λ h. not-earlier (and-left _ _ (and-left _ _ h))))
         not-8)
-        (λ h. not-earlier (and-left _ _ (and-left _ _ h)))
+        (λ h. not-earlier (and-left _ _ (and-left _ _ h))))
+        not-15
 
   -- so the test of the links need not ask whether the other operation is x itself
   pub links-rule : (xs : List ℕ) (x : ℕ)

@@ -1,8 +1,6 @@
 -- The laws of this crate, open to the crates above it.
 pub mod Pairs
-pub mod Settled
 pub mod Newly
-pub mod Ownership
 pub mod Links
 pub mod Stores
 pub mod Releases

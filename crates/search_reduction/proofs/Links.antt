@@ -1,20 +1,21 @@
--- Rules 1 to 8 and 13, the links; what rule 1 says of a store in a consistent prefix.
+-- Rules 1 to 8, 13 and 15, the links; what rule 1 says of a store in a consistent prefix.
 use Prim.Native.Nat.{ℕ, _<_}
 use mathlib.Core.Path.{_≡_, refl, sym, ap, _∙_}
 use mathlib.Core.Bool.{Bool, true, false, _&&_, _||_, and-or-distrib-right}
 use mathlib.Core.List.{List, [], _∷_, map, List·Memᴰ, List·Memᴰ·head}
 use lib.Dec.{eqb}
-use borrow.Author.Tests.{eq-eqb, eqb-true, not-true}
+use borrow.Author.Tests.{eq-eqb, eqb-true}
 use Rattle.base.specs.Lists.{any}
 use Rattle.base.proofs.Bools.{split}
 use Rattle.base.proofs.Lists.{any-same, any-map, any-one, any-or}
 use Rattle.model.specs.Execution.{Execution, Instruction, LV, RV, numberOf, Operation, allOperations, stores}
-use Rattle.model.specs.Rules.{before, link1, link2, link3, link4, link5, link6, link7, link8, link13, Link, _≺_, Claim, must, RV-own, linksOf, rules, linked, broken, keeps, consistent}
+use Rattle.model.specs.Rules.{before, link1, link2, link3, link4, link5, link6, link7, link8, link13, link15, Link, _≺_, must, RV-own, linksOf, rules, linked, broken, consistent}
 use Rattle.model.specs.Accepted.{Accepted}
-use Rattle.search_reduction.proofs.Pairs.{any-fails, any-pairs, pair-fails}
-use Rattle.search_reduction.proofs.Settled.{before-itself}
+use Rattle.model.proofs.Before.{before-itself}
+use Rattle.model.proofs.Consistent.{kept}
+use Rattle.search_reduction.proofs.Pairs.{any-pairs, pair-fails}
 use Rattle.search_reduction.proofs.Newly.{settles, newlyBroken}
-use Rattle.search_reduction.proofs.Ownership.{LV-in, RV-in, store-processor}
+use Rattle.model.proofs.Ownership.{LV-in, RV-in, store-processor}
 
 module _ (e : Execution) where
   module _ (p : Link → Bool) where
@@ -49,10 +50,11 @@ module _ (e : Execution) where
     -- all links, rule by rule
     pub links-split : any p (linksOf e (linked e))
         ≡ (any p (linksOf e link1) || any p (linksOf e link2) || any p (linksOf e link3) || any p (linksOf e link4) || any p (linksOf e link5)
-        || any p (linksOf e link6) || any p (linksOf e link7) || any p (linksOf e (link8 e)) || any p (linksOf e (link13 e)))
+        || any p (linksOf e link6) || any p (linksOf e link7) || any p (linksOf e (link8 e)) || any p (linksOf e (link13 e))
+        || any p (linksOf e link15))
     unfolding linked
     links-split =
-        links-more _ (links-more _ (links-more _ (links-more _ (links-more _ (links-more _ (links-more _ (links-or link1 link2) link3) link4) link5) link6) link7) (link8 e)) (link13 e)
+        links-more _ (links-more _ (links-more _ (links-more _ (links-more _ (links-more _ (links-more _ (links-more _ (links-or link1 link2) link3) link4) link5) link6) link7) (link8 e)) (link13 e)) link15
 
   -- the links that x newly breaks
   pub newly-linked : (xs : List ℕ) (x : ℕ) (link : Operation → Operation → Bool)
@@ -61,18 +63,13 @@ module _ (e : Execution) where
   newly-linked xs x link = any-map (newlyBroken xs x) must (linksOf e link)
 
   module _ (xs : List ℕ) (consists : consistent e xs ≡ true) where
-    -- a consistent prefix breaks no rule
-    pub kept : {r : List Claim} → List·Memᴰ r (rules e) → any (broken xs) r ≡ false
-    unfolding consistent keeps
-    kept m = any-fails (any (broken xs)) m (not-true (any (any (broken xs)) (rules e)) consists)
-
     -- what rule 1 says of its links
     rule1-kept : {a b : Operation} → List·Memᴰ a (allOperations e) → List·Memᴰ b (allOperations e) → link1 a b ≡ true → before xs (b .number) (a .number) ≡ false
     unfolding rules broken linksOf
     rule1-kept {a} {b} ma mb h =
         sym (any-one (λ l. before xs (l .1) (l .0)) (a .number ≺ b .number))
         ∙ pair-fails (λ l. before xs (l .1) (l .0)) (allOperations e) (allOperations e) link1 (λ a b. (a .number ≺ b .number) ∷ []) ma mb h
-        (sym (any-map (broken xs) must (linksOf e link1)) ∙ kept (List·Memᴰ·head refl))
+        (sym (any-map (broken xs) must (linksOf e link1)) ∙ kept e xs consists (List·Memᴰ·head refl))
 
     module _ (accepted : Accepted e) {w : Instruction} (m : List·Memᴰ w (stores e)) where
       -- LV is not behind the own RV, nor the own RV behind another

@@ -1,22 +1,21 @@
--- Rules 11 and 14, loads: the byte that a load reads behind a prefix, and no UC bypass.
+-- Rules 11, 14 and 16, loads: the byte that a load reads behind a prefix, no UC bypass, and semaphores.
 use Prim.Native.Nat.{ℕ}
 use mathlib.Core.Path.{_≡_, refl, sym, ap, _∙_}
 use mathlib.Core.Bool.{Bool, true, false, not, cond, _&&_, _||_, and-false, false≢true}
 use mathlib.Core.List.{List, [], _∷_, map, List·Memᴰ, Memᴰ·of-map}
 use lib.Dec.{eqb}
-use borrow.Author.Tests.{eq-eqb, eqb-true, ne-eqb}
+use borrow.Author.Tests.{eq-eqb, eqb-true, ne-eqb, not-true}
 use Rattle.base.specs.Lists.{any, keep, when, member}
-use Rattle.base.proofs.Bools.{split}
+use Rattle.base.proofs.Bools.{split, clash, and-left}
 use Rattle.base.proofs.Lists.{any-same, any-and, any-when, any-one, any-for, any-map, of-keep}
-use Rattle.model.specs.Execution.{Execution, Instruction, LV, R, numberOf, stores, loads}
-use Rattle.model.specs.Rules.{before, overlap, addresses, accesses, inUC, Writer, Sight, never, sees, RV-own, sightOf, rule11, rule14, byteOf, latest, local, byteRead, broken}
-use Rattle.model.proofs.Before.{then}
+use Rattle.model.specs.Execution.{Execution, Instruction, LV, R, RV, numberOf, stores, loads, semaphores}
+use Rattle.model.specs.Rules.{before, overlap, addresses, accesses, inUC, Writer, Sight, never, sees, RV-own, sightOf, rule11, rule14, rule16, byteOf, latest, local, byteRead, broken}
+use Rattle.model.proofs.Before.{before-absent, before-not, then}
 use Rattle.model.specs.Accepted.{Accepted}
-use Rattle.search_reduction.specs.Admits.{lastByte, missing, lost, bypassDemands, sights, byteNow, unseen}
+use Rattle.search_reduction.specs.Admits.{lastByte, missing, lost, bypassDemands, lockDemands, sights, byteNow, unseen}
 use Rattle.search_reduction.proofs.Pairs.{pairs-same}
-use Rattle.search_reduction.proofs.Settled.{before-absent, before-not}
 use Rattle.search_reduction.proofs.Newly.{newlyBroken, newly-broken}
-use Rattle.search_reduction.proofs.Ownership.{R-differ, store-processor, load-processor}
+use Rattle.model.proofs.Ownership.{semaphore-store, R-differ, RV-differ, store-processor, load-processor}
 
 module _ (x : ℕ) where
   -- the latest before x is the last
@@ -81,6 +80,12 @@ module _ (e : Execution) (xs : List ℕ) (x : ℕ) (new : member xs x ≡ false)
         ∙ sym (any-when (unseen e x xs) (eqb x (numberOf l R)) (map (sightOf e l) (addresses l))))
         ∙ sym (any-for (unseen e x xs) (loads e) (λ l. when (eqb x (numberOf l R)) (map (sightOf e l) (addresses l))))
 
+    -- rules 14 and 16: where x is the second operation and not the third
+    never-table : (r o m u k : Bool) → (o ≡ true → u ≡ false) → (r && (o && (m && (not u && k)))) ≡ (r && o && (m && k))
+    never-table false o m u k h = refl
+    never-table true true m u k h = rw (h refl)
+    never-table true false m u k h = refl
+
     -- rule 14
     abbrev bypassed : Instruction → Instruction → Bool
     bypassed w l = inUC e w && (eqb (w .processor) (l .processor) && overlap w l)
@@ -97,10 +102,30 @@ module _ (e : Execution) (xs : List ℕ) (x : ℕ) (new : member xs x ≡ false)
           any-one (lost e x xs) (numberOf w LV, x, RV-own w),
           before-absent xs (numberOf w LV) x new,
         )
-        (table (bypassed w l) (eqb x (numberOf l R)) (member xs (numberOf w LV)) (eqb x (RV-own w)) (missing e x xs (RV-own w)) (λ t.
+        (never-table (bypassed w l) (eqb x (numberOf l R)) (member xs (numberOf w LV)) (eqb x (RV-own w)) (missing e x xs (RV-own w)) (λ t.
         ne-eqb x (RV-own w) (λ h. R-differ e accepted ml mw (store-processor e accepted mw) (sym (eqb-true x (numberOf l R) t) ∙ h)))))
-      where
-        table : (r o m u k : Bool) → (o ≡ true → u ≡ false) → (r && (o && (m && (not u && k)))) ≡ (r && o && (m && k))
-        table false o m u k h = refl
-        table true true m u k h = rw (h refl)
-        table true false m u k h = refl
+
+    -- rule 16
+    abbrev another : Instruction → Instruction → Bool
+    another s w = not (eqb (s .number) (w .number)) && overlap s w
+
+    pub lock-rule : any (newlyBroken xs x) (rule16 e) ≡ any (lost e x xs) (lockDemands e x)
+    unfolding rule16 lockDemands newlyBroken
+    lock-rule =
+        pairs-same (newlyBroken xs x) (lost e x xs) (semaphores e) (stores e)
+        another (λ s w. never (numberOf s R) (numberOf w (RV (s .processor))) (RV-own s) ∷ [])
+        (λ s w. another s w && eqb x (numberOf w (RV (s .processor)))) (λ s w. (numberOf s R, x, RV-own s) ∷ [])
+        (λ s w ms mw.
+        rw (
+          any-one (newlyBroken xs x) (never (numberOf s R) (numberOf w (RV (s .processor))) (RV-own s)),
+          any-one (lost e x xs) (numberOf s R, x, RV-own s),
+          before-absent xs (numberOf s R) x new,
+        )
+        (split (another s w)
+        (λ t.
+        let low = store-processor e accepted (semaphore-store e ms) in
+        never-table (another s w) (eqb x (numberOf w (RV (s .processor)))) (member xs (numberOf s R)) (eqb x (RV-own s)) (missing e x xs (RV-own s)) (λ u.
+        ne-eqb x (RV-own s) (λ h. RV-differ e accepted mw (semaphore-store e ms)
+        (λ q. clash (eq-eqb (s .number) (w .number) (sym q)) (not-true (eqb (s .number) (w .number)) (and-left _ _ t)))
+        low low (sym (eqb-true x (numberOf w (RV (s .processor))) u) ∙ h))))
+        (λ t. rw t)))

@@ -7,12 +7,10 @@ use lib.Dec.{eqb}
 use borrow.Author.Tests.{eqb-true, not-true}
 use Rattle.base.specs.Lists.{any, member}
 use Rattle.base.proofs.Bools.{split}
-use Rattle.base.proofs.Lists.{any-same, member-append}
+use Rattle.base.proofs.Lists.{any-same, any-fails, member-append}
 use Rattle.model.specs.Rules.{before, Claim, must, _⇒_, never, sees, byteRead, broken, keeps}
-use Rattle.model.proofs.Before.{then, before-append}
+use Rattle.model.proofs.Before.{before-absent, before-stands, before-not, then, before-append}
 use Rattle.model.proofs.Consistent.{byte-kept}
-use Rattle.search_reduction.proofs.Pairs.{any-fails}
-use Rattle.search_reduction.proofs.Settled.{before-absent, before-stands, before-not}
 
 module _ (xs : List ℕ) (x : ℕ) where
   -- another operation than x that does not stand

@@ -10,10 +10,6 @@ use Rattle.base.proofs.Bools.{clash, is-false, agree, and-parts, and-both}
 use Rattle.base.proofs.Lists.{any-same, any-witness, any-member, any-for, any-when, any-one}
 
 module _ {A : Type 0} where
-  -- none passes, so this one does not
-  pub any-fails : (p : A → Bool) {a : A} {l : List A} → List·Memᴰ a l → any p l ≡ false → p a ≡ false
-  any-fails p {a} m h = is-false (p a) (λ t. clash (any-member p m t) h)
-
   pub any-when-one : (p : A → Bool) (b : Bool) (a : A) → any p (when b (a ∷ [])) ≡ (b && p a)
   any-when-one p b a = any-when p b (a ∷ []) ∙ ap (λ (t : Bool). b && t) (any-one p a)
 

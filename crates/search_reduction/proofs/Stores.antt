@@ -7,16 +7,17 @@ use lib.Dec.{eqb, leb, ltb}
 use borrow.Author.Tests.{eqb-true, eqb-false, ne-eqb, not-true, leb-true, ltb-true, le-leb, lt-ltb}
 use Rattle.base.specs.Lists.{any, when, for, member}
 use Rattle.base.proofs.Bools.{split, clash, agree, and-parts, and-both, eqb-swap}
-use Rattle.base.proofs.Lists.{any-for, any-map, any-one, any-witness, any-member, in-count, of-count}
+use Rattle.base.proofs.Lists.{any-for, any-map, any-one, any-witness, any-member, any-fails, in-count, of-count}
 use Rattle.model.specs.Execution.{Execution, Instruction, LV, RV, numberOf, stores, everyProcessor}
 use Rattle.model.specs.Rules.{before, addresses, accesses, overlap, inWB, inUC, Claim, _≺_, _⇒_, RV-own, conflict, forConflicts, rule9, rule10, rules, broken, consistent}
 use Rattle.model.specs.Accepted.{Accepted}
+use Rattle.model.proofs.Before.{before-absent, before-stands, before-past, before-from, before-other}
+use Rattle.model.proofs.Consistent.{kept}
 use Rattle.search_reduction.specs.Admits.{Demand, missing, lost, ownDemands, remoteDemands}
-use Rattle.search_reduction.proofs.Pairs.{any-fails, any-when-one, pair-passes, pair-fails, passing-pair, pairs-same}
-use Rattle.search_reduction.proofs.Settled.{before-absent, before-stands, before-past, before-from, before-other}
+use Rattle.search_reduction.proofs.Pairs.{any-when-one, pair-passes, pair-fails, passing-pair, pairs-same}
 use Rattle.search_reduction.proofs.Newly.{later, settles, newlyBroken}
-use Rattle.search_reduction.proofs.Ownership.{processor-in, in-processors, store-processor, RV-differ, LV-differ}
-use Rattle.search_reduction.proofs.Links.{kept, LV-first, own-first}
+use Rattle.model.proofs.Ownership.{processor-in, in-processors, store-processor, RV-differ, LV-differ}
+use Rattle.search_reduction.proofs.Links.{LV-first, own-first}
 
 -- Conflicts
 

@@ -4,7 +4,7 @@ use mathlib.Core.Bool.{Bool, not, cond, _&&_, _||_}
 use mathlib.Core.List.{List, [], _∷_, map}
 use lib.Dec.{eqb}
 use Rattle.base.specs.Lists.{any, keep, when, for, member}
-use Rattle.model.specs.Execution.{Execution, Instruction, isRelease, LV, R, RV, numberOf, stores, loads, everyProcessor}
+use Rattle.model.specs.Execution.{Execution, Instruction, isRelease, LV, R, RV, numberOf, stores, loads, semaphores, everyProcessor}
 use Rattle.model.specs.Rules.{before, overlap, addresses, inWB, inUC, conflict, Link, linksOf, linked, RV-own, Sight, sightOf, byteOf, remoteOf}
 
 -- (a, b, c): where a is before b, c must stand
@@ -32,6 +32,11 @@ module _ (e : Execution) (x : ℕ) where
   bypassDemands = for (stores e) (λ w. for (loads e) (λ l.
       when (inUC e w && (eqb (w .processor) (l .processor) && overlap w l) && eqb x (numberOf l R)) ((numberOf w LV, x, RV-own w) ∷ [])))
 
+  -- rule 16: x is the RV of store w to the processor of semaphore s, which overlaps it
+  unfoldable pub lockDemands : List Demand
+  lockDemands = for (semaphores e) (λ s. for (stores e) (λ w.
+      when (not (eqb (s .number) (w .number)) && overlap s w && eqb x (numberOf w (RV (s .processor)))) ((numberOf s R, x, RV-own s) ∷ [])))
+
   -- rule 11: the bytes that x reads
   unfoldable pub sights : List Sight
   sights = for (loads e) (λ l. when (eqb x (numberOf l R)) (map (sightOf e l) (addresses l)))
@@ -40,7 +45,7 @@ module _ (e : Execution) (x : ℕ) where
     abbrev pub missing : ℕ → Bool
     missing b = not (member xs b)
 
-    -- rules 1 to 8 and 13: an operation that must stand before x does not
+    -- rules 1 to 8, 13 and 15: an operation that must stand before x does not
     abbrev pub unready : Link → Bool
     unready l = eqb x (l .1) && missing (l .0)
 
@@ -64,4 +69,4 @@ module _ (e : Execution) (x : ℕ) where
     unfoldable pub admits : Bool
     admits =
         not (any unready (linksOf e (linked e)) || any interrupts (stores e)
-        || any lost ownDemands || any lost remoteDemands || any lost bypassDemands || any unseen sights)
+        || any lost ownDemands || any lost remoteDemands || any lost bypassDemands || any lost lockDemands || any unseen sights)

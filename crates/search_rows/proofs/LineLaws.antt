@@ -19,6 +19,7 @@ use Rattle.model.specs.Rules.{accesses}
 use Rattle.record_decoded.specs.declared.types.Execution.{Execution}
 use Rattle.record_decoded.specs.Decoded.{initialOf, instructionAt}
 use Rattle.search_admit.specs.Rows.{covers, relative, dataBit}
+use Rattle.search_rows.specs.Lent.{relativeBit}
 use Rattle.search_sets.proofs.Bit.{has-or}
 use Rattle.search_sets.proofs.Laws.{lt-or-le, has-above, zero-has}
 
@@ -122,11 +123,9 @@ module _ (x : Execution) (w : ℕ) {address size : ℕ} (is-address : address �
       (agree (ltb (i / 8) (first % 8 + extent)) (ltb (8 * (first / 8) + i / 8) (first + extent)) (λ t. lt-ltb (8 * (first / 8) + i / 8) (first + extent) (omega (arith, ltb-true (i / 8) (first % 8 + extent) t)))
       (λ t. lt-ltb (i / 8) (first % 8 + extent) (omega (arith, ltb-true (8 * (first / 8) + i / 8) (first + extent) t))))
 
-  pub data-by : (bytes : List ℕ) {values : List ℕ} → values ≡ x .instructions .bytes → (i : ℕ)
-      → (leb (address % 8) (i / 8) && ltb (i / 8) (address % 8 + size)
-      && bit (relative (getD values (8 * w + (i / 8 - address % 8)) 0) (initialOf bytes (x .lines .count) (8 * (address / 8) + i / 8))) (i % 8)) ≡ dataBit bytes x w i
+  pub data-by : (bytes : List ℕ) {values : List ℕ} → values ≡ x .instructions .bytes → (from i : ℕ)
+      → relativeBit bytes (x .lines .count) values (16 * w + from) address size i ≡ dataBit bytes x w from i
   unfolding dataBit
-  data-by bytes {values} lent i =
-      ap (λ (own : List ℕ). leb (address % 8) (i / 8) && ltb (i / 8) (address % 8 + size)
-      && bit (relative (getD own (8 * w + (i / 8 - address % 8)) 0) (initialOf bytes (x .lines .count) (8 * (address / 8) + i / 8))) (i % 8)) lent
-      ∙ ap₂ (λ (b : Bool) (a : ℕ). b && bit (relative (getD (x .instructions .bytes) (8 * w + (i / 8 - a % 8)) 0) (initialOf bytes (x .lines .count) (8 * (a / 8) + i / 8))) (i % 8)) (covers-by i) is-address
+  data-by bytes {values} lent from i =
+      ap (λ (own : List ℕ). relativeBit bytes (x .lines .count) own (16 * w + from) address size i) lent
+      ∙ ap₂ (λ (b : Bool) (a : ℕ). b && bit (relative (getD (x .instructions .bytes) (16 * w + from + (i / 8 - a % 8)) 0) (initialOf bytes (x .lines .count) (8 * (a / 8) + i / 8))) (i % 8)) (covers-by i) is-address

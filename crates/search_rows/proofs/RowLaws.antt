@@ -1,4 +1,4 @@
--- The seventeen words of a row are what they should be.
+-- The eighteen words of a row are what they should be.
 use Prim.Native.Nat.{ℕ, _+_, _*_, _-_, _/_, _<_}
 use native.Mathlib.Omega.{arith}
 use mathlib.Core.Path.{_≡_, sym, ap, ap₂, _∙_, subst}
@@ -10,16 +10,18 @@ use borrow.Author.Tests.{eq-eqb, ne-eqb, lt-leb}
 use Rattle.base.specs.Below.{anyBelow}
 use Rattle.base.specs.Bits.{bit}
 use Rattle.base.proofs.Bools.{clash}
-use Rattle.model.specs.Execution.{Kind, kindOf, LV, RV, operations, numberFrom}
+use Rattle.model.specs.Execution.{Kind, kindOf, isSemaphore, R, LV, RV, operations, numberFrom}
+use Rattle.model.specs.Questions.{writtenFrom}
 use Rattle.model.specs.Rules.{linked}
 use Rattle.model.specs.Accepted.{Accepted, Sound}
+use Rattle.model.proofs.Accesses.{fits-line}
 use Rattle.record_decoded.specs.declared.types.Execution.{Execution}
 use Rattle.record_decoded.specs.Decoded.{instructionAt, executionOf}
 use Rattle.relation_links.specs.declared.operations.Operations.{Operations}
 use Rattle.relation_links.specs.Operations.{operationAt}
 use Rattle.relation_links.specs.Compiled.{CompiledIn}
 use Rattle.relation_links.proofs.CompiledLaws.{few-instructions, owner-there}
-use Rattle.search_reduction.proofs.Ownership.{each-in}
+use Rattle.model.proofs.Ownership.{each-in}
 use Rattle.search_sets.specs.Set.{holds}
 use Rattle.search_sets.proofs.Laws.{zero-has}
 use Rattle.search_admit.specs.Rows.{writes, visibleAt, ownAt, covers, dataBit, awaitedBy, RowOf}
@@ -29,7 +31,6 @@ use Rattle.search_constraints.proofs.LinkedLaws.{preds-mean}
 use Rattle.search_constraints.proofs.PartnerLaws.{partner-means}
 use Rattle.search_constraints.proofs.OwnedLaws.{each-linked}
 use Rattle.search_meaning.proofs.Owners.{numbered-in}
-use Rattle.search_meaning.proofs.Bytes.{fits-line}
 use Rattle.search_rows.specs.Lent.{Lent, InLines}
 
 -- what a role writes
@@ -112,6 +113,10 @@ module _ {bytes : List ℕ} {x : Execution} {t : Operations} {marks : List (List
       ∙ ap₂ (λ (ps from : List ℕ). bypassSome role (x .instructions .kinds) (x .instructions .firsts) ps from w a) (lent .processors-are) (lent .addresses-are)
       ∙ ap (λ (v : ℕ). bypassSome role (x .instructions .kinds) (x .instructions .firsts) (x .instructions .processors) (x .instructions .addresses) v a) iw
 
+  -- where an instruction's bytes written begin
+  abbrev writtenOf : ℕ → ℕ
+  writtenOf w = writtenFrom (kindOf (getD (x .instructions .kinds) w 0))
+
   -- what makes a row of the operation, by its role
   abbrev RowIs : ℕ → Type 0
   RowIs r =
@@ -121,32 +126,36 @@ module _ {bytes : List ℕ} {x : Execution} {t : Operations} {marks : List (List
       → ((a : ℕ) → a < 128 → holds (row 2) (row 3) a ≡ partnerOf (markAt marks w w) r kind first (x .processors) a)
       → ((a : ℕ) → a < 128 → holds (row 4) (row 5) a ≡ awaitedSome r kinds firsts processors w a)
       → ((a : ℕ) → a < 128 → holds (row 6) (row 7) a ≡ bypassSome r kinds firsts processors addresses w a)
-      → (bits written : ℕ) → ((i : ℕ) → i < 64 → bit bits i ≡ covers x w i) → ((i : ℕ) → i < 64 → bit written i ≡ dataBit bytes x w i)
+      → (bits saw wrote : ℕ) → ((i : ℕ) → i < 64 → bit bits i ≡ covers x w i) → ((i : ℕ) → i < 64 → bit saw i ≡ dataBit bytes x w 0 i)
+      → ((i : ℕ) → i < 64 → bit wrote i ≡ dataBit bytes x w (writtenOf w) i)
       → (writing : Bool) → writing ≡ writes r
-      → row 8 ≡ cond writing bits 0 → row 9 ≡ cond writing written 0
+      → row 8 ≡ cond writing bits 0 → row 9 ≡ cond writing wrote 0
       → (writes r ≡ true → row 10 ≡ cond (eqb r 1) (ownAt processor line) (visibleAt (r - 3) line))
-      → row 11 ≡ cond (eqb r 0) bits 0 → row 12 ≡ cond (eqb r 0) written 0
+      → row 11 ≡ cond (eqb r 0) bits 0 → row 12 ≡ cond (eqb r 0) saw 0
       → row 13 ≡ 8 * processor + line → row 14 ≡ 64 + 8 * processor + line
       → (own-rv lv : ℕ) → own-rv ≡ numberFrom first kind (RV processor) → lv ≡ numberFrom first kind LV
       → row 15 ≡ cond writing own-rv o → row 16 ≡ cond writing lv o
+      → row 17 ≡ cond (writing && isSemaphore kind) (numberFrom first kind R) o
       → RowOf x t marks o bytes row
 
   row-by-role : RowIs role
   unfolding instructionAt
-  row-by-role row w first processor line kind iw isf isk ip il preds partners awaited bypasses bits written bits-are data-are writing wr r8 r9 r10 r11 r12 r13 r14 own-rv lv irv ilv r15 r16 = record {
+  row-by-role row w first processor line kind iw isf isk ip il preds partners awaited bypasses bits saw wrote bits-are saw-are wrote-are writing wr r8 r9 r10 r11 r12 r13 r14 own-rv lv irv ilv r15 r16 r17 = record {
     preds-are = λ a l. preds a l ∙ linked-lent w a iw ∙ each-linked h o a ∙ preds-mean h accepted o a there ∙ ap (λ (n : ℕ). ltb a n && linked (executionOf bytes x) (operationAt (x .instructions) t a) (operationAt (x .instructions) t o)) (h .tabled .counts);
     partners-are = λ a l. partners a l ∙ ap₂ (λ (v f : ℕ). partnerOf (markAt marks v v) role kind f (x .processors) a) iw first-is ∙ ap (λ (k : Kind). partnerOf (markAt marks owner owner) role k (getD (x .instructions .firsts) owner 0) (x .processors) a) kind-is ∙ partner-means h accepted o there a;
     awaited-are = λ a l. awaited a l ∙ awaited-lent w a iw;
     bypasses-are = λ a l. bypasses a l ∙ bypass-lent w a iw;
     writes-bits = λ i l. ap (λ (v : ℕ). bit v i) r8 ∙ wanted-bit writing (covers x w i) bits i (bits-are i l) ∙ ap₂ (λ (b : Bool) (v : ℕ). b && covers x v i) wr iw;
-    writes-data = λ i l. ap (λ (v : ℕ). bit v i) r9 ∙ wanted-bit writing (dataBit bytes x w i) written i (data-are i l) ∙ ap₂ (λ (b : Bool) (v : ℕ). b && dataBit bytes x v i) wr iw;
+    writes-data = λ i l. ap (λ (v : ℕ). bit v i) r9 ∙ wanted-bit writing (dataBit bytes x w (writtenOf w) i) wrote i (wrote-are i l) ∙ ap₂ (λ (b : Bool) (v : ℕ). b && dataBit bytes x v (writtenOf v) i) wr iw;
     writes-word = λ u. r10 u ∙ ap₂ (λ (p l : ℕ). cond (eqb role 1) (ownAt p l) (visibleAt (role - 3) l)) processor-is line-is;
     reads-bits = λ i l. ap (λ (v : ℕ). bit v i) r11 ∙ wanted-bit (eqb role 0) (covers x w i) bits i (bits-are i l) ∙ ap (λ (v : ℕ). eqb role 0 && covers x v i) iw;
-    reads-data = λ i l. ap (λ (v : ℕ). bit v i) r12 ∙ wanted-bit (eqb role 0) (dataBit bytes x w i) written i (data-are i l) ∙ ap (λ (v : ℕ). eqb role 0 && dataBit bytes x v i) iw;
+    reads-data = λ i l. ap (λ (v : ℕ). bit v i) r12 ∙ wanted-bit (eqb role 0) (dataBit bytes x w 0 i) saw i (saw-are i l) ∙ ap (λ (v : ℕ). eqb role 0 && dataBit bytes x v 0 i) iw;
     reads-visible = λ u. r13 ∙ ap₂ visibleAt processor-is line-is;
     reads-own = λ u. r14 ∙ ap₂ ownAt processor-is line-is;
     own-is = r15 ∙ ap₂ (λ (b : Bool) (n : ℕ). cond b n o) wr (irv ∙ ap₂ (λ (f p : ℕ). numberFrom f kind (RV p)) first-is processor-is ∙ ap (λ (k : Kind). numberFrom (getD (x .instructions .firsts) owner 0) k (RV (getD (x .instructions .processors) owner 0))) kind-is);
     local-is = r16 ∙ ap₂ (λ (b : Bool) (n : ℕ). cond b n o) wr (ilv ∙ ap₂ (λ (f : ℕ) (k : Kind). numberFrom f k LV) first-is kind-is);
+    read-is = r17 ∙ ap₂ (λ (b : Bool) (f : ℕ). cond (b && isSemaphore kind) (numberFrom f kind R) o) wr first-is
+        ∙ ap (λ (k : Kind). cond (writes role && isSemaphore k) (numberFrom (getD (x .instructions .firsts) owner 0) k R) o) kind-is;
   }
     where
       processor-is : processor ≡ getD (x .instructions .processors) owner 0

@@ -36,11 +36,11 @@ put-more {before} {row} {at} {j} {after} inv room = record {
     elsewhere i (inl l) e = omega arith
     elsewhere i (inr l) e = omega arith
 
-pub put-done : {before row : List ℕ} {at j : ℕ} {after : List ℕ} → Put before row at j after → j ≡ 17 → Put before row at 17 after
+pub put-done : {before row : List ℕ} {at j : ℕ} {after : List ℕ} → Put before row at j after → j ≡ 18 → Put before row at 18 after
 put-done {before} {row} {at} {j} {after} inv e = subst (λ (k : ℕ). Put before row at k after) e inv
 
 -- the same row by another name
-row-same : {bytes : List ℕ} {x : Execution} {t : Operations} {marks : List (List ℕ)} {o : ℕ} (row row' : ℕ → ℕ) → ((f : ℕ) → f < 17 → row' f ≡ row f) → RowOf x t marks o bytes row → RowOf x t marks o bytes row'
+row-same : {bytes : List ℕ} {x : Execution} {t : Operations} {marks : List (List ℕ)} {o : ℕ} (row row' : ℕ → ℕ) → ((f : ℕ) → f < 18 → row' f ≡ row f) → RowOf x t marks o bytes row → RowOf x t marks o bytes row'
 row-same row row' e r = record {
   preds-are = λ a l. ap₂ (λ (u v : ℕ). holds u v a) (e 0 (omega arith)) (e 1 (omega arith)) ∙ r .preds-are a l;
   partners-are = λ a l. ap₂ (λ (u v : ℕ). holds u v a) (e 2 (omega arith)) (e 3 (omega arith)) ∙ r .partners-are a l;
@@ -55,19 +55,20 @@ row-same row row' e r = record {
   reads-own = λ w. e 14 (omega arith) ∙ r .reads-own w;
   own-is = e 15 (omega arith) ∙ r .own-is;
   local-is = e 16 (omega arith) ∙ r .local-is;
+  read-is = e 17 (omega arith) ∙ r .read-is;
 }
 
 -- The invariant: the rows of the first o operations are in.
 pub record Filled (bytes : List ℕ) (x : Execution) (t : Operations) (marks : List (List ℕ)) (n : ℕ) (rows : List ℕ) (o : ℕ) : Type 0 where
   pub few : o ≤ n
-  pub long : length rows ≡ 2176
+  pub long : length rows ≡ 2304
   pub rowed : (k : ℕ) → k < o → RowOf x t marks k bytes (λ f. field rows f k)
 
-pub filled-none : {bytes : List ℕ} {x : Execution} {t : Operations} {marks : List (List ℕ)} {n : ℕ} {rows : List ℕ} → length rows ≡ 2176 → Filled bytes x t marks n rows 0
+pub filled-none : {bytes : List ℕ} {x : Execution} {t : Operations} {marks : List (List ℕ)} {n : ℕ} {rows : List ℕ} → length rows ≡ 2304 → Filled bytes x t marks n rows 0
 filled-none l = record { few = omega arith; long = l; rowed = λ k h. absurd (omega arith) }
 
 pub filled-more : {bytes : List ℕ} {x : Execution} {t : Operations} {marks : List (List ℕ)} {n : ℕ} {rows : List ℕ} {o : ℕ} → Filled bytes x t marks n rows o → o < n → n ≤ 128 → (row : List ℕ)
-    → RowOf x t marks o bytes (λ f. getD row f 0) → {after : List ℕ} → Put rows row (17 * o) 17 after → Filled bytes x t marks n after (o + 1)
+    → RowOf x t marks o bytes (λ f. getD row f 0) → {after : List ℕ} → Put rows row (18 * o) 18 after → Filled bytes x t marks n after (o + 1)
 filled-more {bytes} {x} {t} {marks} {n} {rows} {o} inv l few row made {after} put = record {
   few = omega arith;
   long = put .long ∙ inv .long;
@@ -75,7 +76,7 @@ filled-more {bytes} {x} {t} {marks} {n} {rows} {o} inv l few row made {after} pu
 }
   where
     go : (k : ℕ) → k < o + 1 → Dec (k < o) → RowOf x t marks k bytes (λ f. field after f k)
-    go k h (yes m) = row-same (λ f. field rows f k) (λ f. field after f k) (λ f s. put .old (17 * k + f) (inl (omega arith))) (inv .rowed k m)
+    go k h (yes m) = row-same (λ f. field rows f k) (λ f. field after f k) (λ f s. put .old (18 * k + f) (inl (omega arith))) (inv .rowed k m)
     go k h (no m) =
         let e : o ≡ k = omega arith in
         subst (λ (j : ℕ). RowOf x t marks j bytes (λ f. field after f j)) e (row-same (λ f. getD row f 0) (λ f. field after f o) (λ f s. put .new f s) made)

@@ -2,11 +2,10 @@
 ghost use mathlib.Core.Path.{_≡_};
 ghost use mathlib.Core.Bool.{_&&_, _||_};
 ghost use Prim.Native.Nat.{ℕ, _+_, _*_, _-_, _/_, _%_, _<_, _≤_};
-ghost use lib.ListN.{getD};
 ghost use lib.Dec.{eqb, leb, ltb};
 ghost use Rattle.base.specs.Bits.{bit};
-ghost use Rattle.record_decoded.specs.Decoded.{initialOf};
-ghost use Rattle.search_admit.specs.Rows.{relative, Bytes};
+ghost use Rattle.search_admit.specs.Rows.{Bytes};
+ghost use Rattle.search_rows.specs.Lent.{relativeBit};
 use record_decoded::initial::initial_byte;
 use record_decoded::types::DATA_STRIDE;
 use record_decoded::types::InstructionNo;
@@ -35,19 +34,20 @@ pub fn bits_from(place: usize, size: usize) -> u64
     word
 }
 
-// So many data bytes of instruction w, from its address's place in the line on, each relative to the initial byte of its own address.
+// So many data bytes of instruction w from one on, from its address's place in the line on, each relative to the initial byte of its own address.
 pub fn relative_from(
     bytes: &[u8],
     count: usize,
     data: &[u8; DATA_STRIDE * MOST_INSTRUCTIONS],
     w: InstructionNo,
+    from: usize,
     address: usize,
     size: usize,
 ) -> u64
-    requires { ⌜ (count ≤ 8) × (w .0 < 40) × (address < 256) × (address % 8 + size ≤ 8) ⌝ }
-    ensures { λ r. ⌜ ((i : ℕ) → i < 64 → bit r i ≡ (leb (address % 8) (i / 8) && ltb (i / 8) (address % 8 + size) && bit (relative (getD (now («data» .entry)) (8 * w .0 + (i / 8 - address % 8)) 0) (initialOf (now (bytes .entry)) count (8 * (address / 8) + i / 8))) (i % 8))) ⌝ }
+    requires { ⌜ (count ≤ 8) × (w .0 < 40) × (from ≤ 8) × (address < 256) × (address % 8 + size ≤ 8) ⌝ }
+    ensures { λ r. ⌜ ((i : ℕ) → i < 64 → bit r i ≡ relativeBit (now (bytes .entry)) count (now («data» .entry)) (16 * w .0 + from) address size i) ⌝ }
 {
-    let at = DATA_STRIDE * w.0;
+    let at = DATA_STRIDE * w.0 + from;
     let place = address % 8;
     let mut word = 0;
     for j in 0..size {

@@ -1,19 +1,23 @@
-// The row of one operation: seventeen words.
+// The row of one operation: eighteen words.
 ghost use mathlib.Core.Path.{_≡_};
-ghost use mathlib.Core.Bool.{true, cond};
+ghost use mathlib.Core.Bool.{true, cond, _&&_};
 ghost use mathlib.Core.List.{List};
 ghost use Prim.Native.Nat.{ℕ, _+_, _-_, _<_};
 ghost use lib.ListN.{getD};
 ghost use lib.Dec.{eqb};
+ghost use Rattle.model.specs.Execution.{isSemaphore, R, numberFrom};
 ghost use Rattle.model.specs.Accepted.{Accepted};
+ghost use Rattle.record_decoded.specs.Kinds.{meant};
 ghost use Rattle.record_decoded.specs.Decoded.{executionOf};
 ghost use Rattle.relation_links.specs.Compiled.{Compiled};
 ghost use Rattle.search_admit.specs.Rows.{writes, visibleAt, ownAt, RowOf};
 ghost use Rattle.search_rows.specs.Lent.{Lent, CoveredBits, RelativeValues};
+use record_decoded::kind::Kind;
 use record_decoded::kind::ROLE_LV;
 use record_decoded::kind::ROLE_R;
 use record_decoded::kind::ROLE_RV;
 use record_decoded::kind::Role;
+use record_decoded::kind::is_semaphore;
 use record_decoded::kind::kind_of;
 use record_decoded::kind::number_of;
 use record_decoded::position::Position;
@@ -25,6 +29,7 @@ use record_decoded::types::OperationNo;
 use record_decoded::types::wide;
 use record_decoded::types::wide16;
 use relation_links::operations::Operations;
+use relation_marks::table::both;
 use search_admit::ROW;
 use search_admit::WORDS;
 use search_constraints::awaited_at;
@@ -55,6 +60,18 @@ fn number_or_own(writing: bool, number: OperationNo, o: OperationNo) -> Operatio
     ensures { λ r. ⌜ r .0 ≡ cond writing (number .0) (o .0) ⌝ }
 {
     if writing { number } else { o }
+}
+
+// The number of the R of an operation's semaphore, or its own, by whether it writes and its instruction's kind and first operation.
+fn read_or_own(writing: bool, kind: Kind, first: OperationNo, o: OperationNo) -> OperationNo
+    requires { ⌜ first .0 < 65536 ⌝ }
+    ensures { λ r. ⌜ r .0 ≡ cond (writing && isSemaphore (meant kind)) (numberFrom (first .0) (meant kind) R) (o .0) ⌝ }
+{
+    if both(writing, is_semaphore(kind)) {
+        number_of(first, kind, Role::R)
+    } else {
+        o
+    }
 }
 
 // The word of memory for a line as a processor sees it.
@@ -101,11 +118,12 @@ pub fn row_of<'a>(
     processors: &'a [u8; MOST_INSTRUCTIONS],
     addresses: &'a [u8; MOST_INSTRUCTIONS],
     bits: &'a [u64; MOST_INSTRUCTIONS],
-    values: &'a [u64; MOST_INSTRUCTIONS],
+    seen: &'a [u64; MOST_INSTRUCTIONS],
+    written: &'a [u64; MOST_INSTRUCTIONS],
     o: OperationNo,
 ) -> [u64; ROW]
     requires { ⌜ Compiled x t (now marks) × ((bytes : List ℕ) → Accepted (executionOf bytes x)) × (o .0 < t .count) × Lent x t (now owners) (now roles) (now kinds) (now firsts) (now processors) (now addresses) × CoveredBits x (now bits) ⌝ }
-    ensures { λ r. ⌜ ((bytes : List ℕ) → RelativeValues bytes x (now (values .entry)) → RowOf x t (now (marks .entry)) (o .0) bytes (λ (f : ℕ). getD r f 0)) ⌝ }
+    ensures { λ r. ⌜ ((bytes : List ℕ) → RelativeValues bytes x (now (seen .entry)) (now (written .entry)) → RowOf x t (now (marks .entry)) (o .0) bytes (λ (f : ℕ). getD r f 0)) ⌝ }
 {
     let every = x.processors;
     let n = x.instructions.count;
@@ -139,22 +157,25 @@ pub fn row_of<'a>(
         role,
     );
     let covered = bits[w];
-    let value = values[w];
+    let saw = seen[w];
+    let wrote = written[w];
     let writing = is_writing(role);
     let reading = role == ROLE_R;
     let written_bits = wanted(writing, covered);
-    let written_data = wanted(writing, value);
+    let written_data = wanted(writing, wrote);
     let written_word = word_of(role, processor, line) as u64;
     let read_bits = wanted(reading, covered);
-    let read_data = wanted(reading, value);
+    let read_data = wanted(reading, saw);
     let visible_word = visible_at(processor, line) as u64;
     let own_word = own_at(processor, line) as u64;
     let own_rv = number_of(OperationNo(first), kind, Role::RV(processor));
     let lv = number_of(OperationNo(first), kind, Role::LV);
     let own = number_or_own(writing, own_rv, o);
     let local = number_or_own(writing, lv, o);
+    let read = read_or_own(writing, kind, OperationNo(first), o);
     let own_number = own.0 as u64;
     let local_number = local.0 as u64;
+    let read_number = read.0 as u64;
     [
         preds.lo,
         preds.hi,
@@ -173,5 +194,6 @@ pub fn row_of<'a>(
         own_word,
         own_number,
         local_number,
+        read_number,
     ]
 }

@@ -58,7 +58,8 @@ pub fn rows_of(
     let addresses = is.addresses;
     let words = access_words(bytes, x);
     let bits = words.bits;
-    let values = words.values;
+    let seen = words.seen;
+    let written = words.written;
     let mut rows = [0u64; TABLE];
     for o in 0..n {
         let row = row_of(
@@ -72,7 +73,8 @@ pub fn rows_of(
             &processors,
             &addresses,
             &bits,
-            &values,
+            &seen,
+            &written,
             OperationNo(o),
         );
         put_row(&mut rows, OperationNo(o), &row);

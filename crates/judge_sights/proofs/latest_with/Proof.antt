@@ -61,8 +61,8 @@ sub-k c =
     gives-from (a .is) (a .load .0) (a .address) (a .local) (a .w .0) (c .address-of .result) (c .address-of .ensures .0)
     (sym (c .before .before .before .before .before .before .before .before .before .before .before .may-give .ensures) ∙ not-false _ (c .before .before .before .before .before .before .before .before .before .before .if1 .left))
 
-data-byte-requires : tie.Need-data-byte-requires
-data-byte-requires c κs = search needs
+wrote-byte-requires : tie.Need-wrote-byte-requires
+wrote-byte-requires c κs = search needs
 
 add-next : tie.Need-add-next
 add-next c = search needs
@@ -76,8 +76,8 @@ returns-4 c =
     (c .before .before .before .before .before .before .before .before .wide .ensures .0 ∙ c .before .before .before .before .before .before .before .before .before .place-of .ensures ∙ ap (placed (a .places .now)) (c .before .before .before .before .before .before .before .before .before .before .visible-by .ensures))
     (c .before .before .before .before .before .wide2 .ensures .0 ∙ c .before .before .before .before .before .before .place-of2 .ensures ∙ ap (placed (a .places .now)) (c .before .before .before .before .before .before .before .read-no .ensures))
     (sym (c .before .before .before .before .before .before .before .before .before .before .before .before .may-give .ensures) ∙ not-false _ (c .before .before .before .before .before .before .before .before .before .before .before .if1 .left))
-    (c .before .before .before .before .if2 .left) (c .before .before .if3 .left) (c .data-byte .result)
-    (c .before .address-of .result) (c .before .address-of .ensures .0) (c .data-byte .ensures)
+    (c .before .before .before .before .if2 .left) (c .before .before .if3 .left) (c .wrote-byte .result)
+    (c .before .address-of .result) (c .before .address-of .ensures .0) (c .wrote-byte .ensures)
 
 pub latest-with-spec : {M : Type 1} → statement M
 latest-with-spec =
@@ -95,6 +95,6 @@ latest-with-spec =
     returns-3
     address-of-requires
     sub-k
-    data-byte-requires
+    wrote-byte-requires
     add-next
     returns-4)

@@ -30,8 +30,8 @@ initial-byte-requires c κs = search needs
 byte-read-requires : tie.Need-byte-read-requires
 byte-read-requires c κs = search needs
 
-data-byte-requires : tie.Need-data-byte-requires
-data-byte-requires c κs = search needs
+seen-byte-requires : tie.Need-seen-byte-requires
+seen-byte-requires c κs = search needs
 
 returns-2 : tie.Need-returns-2
 returns-2 c =
@@ -39,7 +39,7 @@ returns-2 c =
     sight-is (a .bytes .now) (a .x) (a .places .now) (a .load .0) (a .k) (c .before .before .before .before .before .before .place-of .result)
     (c .before .before .before .before .before .before .place-of .ensures ∙ ap (placed (a .places .now)) (c .before .before .before .before .before .before .before .read-no .ensures))
     (c .before .before .before .before .before .if1 .left) (c .before .before .before .address-of .result) (c .before .before .initial-byte .result) (c .before .byte-read .result)
-    (c .data-byte .result) (c .before .before .before .address-of .ensures .0) (c .before .before .initial-byte .ensures) (c .before .byte-read .ensures) (c .data-byte .ensures)
+    (c .seen-byte .result) (c .before .before .before .address-of .ensures .0) (c .before .before .initial-byte .ensures) (c .before .byte-read .ensures) (c .seen-byte .ensures)
 
 pub sight-broken-spec : {M : Type 1} → statement M
 sight-broken-spec =
@@ -52,5 +52,5 @@ sight-broken-spec =
     add-address
     initial-byte-requires
     byte-read-requires
-    data-byte-requires
+    seen-byte-requires
     returns-2)

@@ -60,23 +60,23 @@ returns-5 c =
     sym (pair-is (a .is) (a .earlier .0) (a .later .0) (c .before .before .before .before .before .before .before .before .before .before .if1 .left) (c .before .before .before .before .before .before .before .before .before .if2 .left) (meant (c .before .before .before .before .before .kind-of .result)) (meant (c .before .before .before .before .kind-of2 .result)) (c .before .before .before .before .before .kind-of .ensures) (c .before .before .before .before .kind-of2 .ensures)
     ∙ rw (eq-eqb _ _ (c .before .before .before .before .before .before .before .if3 .left), sym (c .before .before .before .is-fence .ensures) ∙ c .before .before .if4 .left, sym (c .before .is-fence2 .ensures) ∙ c .if5 .taken))
 
-is-store-requires : tie.Need-is-store-requires
-is-store-requires c κs = search needs
+is-only-store-requires : tie.Need-is-only-store-requires
+is-only-store-requires c κs = search needs
 
-is-store-requires-2 : tie.Need-is-store-requires-2
-is-store-requires-2 c κs = search needs
+is-only-store-requires-2 : tie.Need-is-only-store-requires-2
+is-only-store-requires-2 c κs = search needs
 
 returns-6 : tie.Need-returns-6
 returns-6 c =
     let a = c .before .before .before .before .before .before .before .before .before .before .before .before .before .before .args in
     sym (pair-is (a .is) (a .earlier .0) (a .later .0) (c .before .before .before .before .before .before .before .before .before .before .before .before .before .if1 .left) (c .before .before .before .before .before .before .before .before .before .before .before .before .if2 .left) (meant (c .before .before .before .before .before .before .before .before .kind-of .result)) (meant (c .before .before .before .before .before .before .before .kind-of2 .result)) (c .before .before .before .before .before .before .before .before .kind-of .ensures) (c .before .before .before .before .before .before .before .kind-of2 .ensures)
-    ∙ rw (eq-eqb _ _ (c .before .before .before .before .before .before .before .before .before .before .if3 .left), sym (c .before .before .before .before .before .before .is-fence .ensures) ∙ c .before .before .before .before .before .if4 .left, sym (c .before .before .before .before .is-fence2 .ensures) ∙ c .before .before .before .if5 .left, sym (c .before .before .is-store .ensures) ∙ c .before .if6 .taken, ← (c .is-store2 .ensures)))
+    ∙ rw (eq-eqb _ _ (c .before .before .before .before .before .before .before .before .before .before .if3 .left), sym (c .before .before .before .before .before .before .is-fence .ensures) ∙ c .before .before .before .before .before .if4 .left, sym (c .before .before .before .before .is-fence2 .ensures) ∙ c .before .before .before .if5 .left, sym (c .before .before .is-only-store .ensures) ∙ c .before .if6 .taken, ← (c .is-only-store2 .ensures)))
 
 returns-7 : tie.Need-returns-7
 returns-7 c =
     let a = c .before .before .before .before .before .before .before .before .before .before .before .before .before .args in
     sym (pair-is (a .is) (a .earlier .0) (a .later .0) (c .before .before .before .before .before .before .before .before .before .before .before .before .if1 .left) (c .before .before .before .before .before .before .before .before .before .before .before .if2 .left) (meant (c .before .before .before .before .before .before .before .kind-of .result)) (meant (c .before .before .before .before .before .before .kind-of2 .result)) (c .before .before .before .before .before .before .before .kind-of .ensures) (c .before .before .before .before .before .before .kind-of2 .ensures)
-    ∙ rw (eq-eqb _ _ (c .before .before .before .before .before .before .before .before .before .if3 .left), sym (c .before .before .before .before .before .is-fence .ensures) ∙ c .before .before .before .before .if4 .left, sym (c .before .before .before .is-fence2 .ensures) ∙ c .before .before .if5 .left, sym (c .before .is-store .ensures) ∙ c .if6 .left))
+    ∙ rw (eq-eqb _ _ (c .before .before .before .before .before .before .before .before .before .if3 .left), sym (c .before .before .before .before .before .is-fence .ensures) ∙ c .before .before .before .before .if4 .left, sym (c .before .before .before .is-fence2 .ensures) ∙ c .before .before .if5 .left, sym (c .before .is-only-store .ensures) ∙ c .if6 .left))
 
 pub pair-passes-spec : {M : Type 1} → statement M
 pair-passes-spec =
@@ -95,7 +95,7 @@ pair-passes-spec =
     returns-4
     is-fence-requires-2
     returns-5
-    is-store-requires
-    is-store-requires-2
+    is-only-store-requires
+    is-only-store-requires-2
     returns-6
     returns-7)

@@ -4,7 +4,7 @@ use native.Mathlib.Omega.{arith}
 use mathlib.Core.Path.{_≡_, refl, sym, subst}
 use lib.ListN.{drop}
 use Rattle.model.specs.Questions.{readInstruction, many}
-use Rattle.record_decoded.specs.Decoded.{instructionsOf, Counted}
+use Rattle.record_decoded.specs.Decoded.{attributesOf, instructionsOf, Counted}
 use Rattle.record_decoded.proofs.Items.{Going, going-on, going-fails, going-ends, going-starts}
 use borrow.Author.Needs.{needs}
 use Rattle.record_programs.proofs.program_entries.Statement.{statement}
@@ -12,7 +12,7 @@ use Rattle.record_programs.proofs.program_entries.Tie as tie
 
 abbrev Inv-loop : tie.InvT-loop
 Inv-loop part n lines processors p instructions₀ at₀ i₀ instructions at i =
-    Going (readInstruction processors lines p) (many (readInstruction processors lines p) n (instructionsOf instructions₀) (drop 1 part)) part n i at (instructionsOf instructions)
+    Going (readInstruction processors (attributesOf lines) p) (many (readInstruction processors (attributesOf lines) p) n (instructionsOf instructions₀) (drop 1 part)) part n i at (instructionsOf instructions)
     × Counted processors instructions × (instructions .count ≡ instructions₀ .count + i)
 
 abbrev μ-loop : tie.MeasureT-loop
@@ -33,7 +33,7 @@ returns c =
     let inv = c .before .before .before .before .before .loop .inv in
     record {
       walked = going-fails (inv .0) (c .before .before .before .before .loop-test .taken)
-          (c .before .before .before .instruction-question .ensures (a .processors) (a .p) _) (c .before .asked .given .1);
+          (c .before .before .before .instruction-question .ensures (a .processors) (a .p) _ .answered) (c .before .asked .given .1);
       counts = inv .1;
     }
 
@@ -44,12 +44,14 @@ with-instruction-requires : tie.Need-with-instruction-requires Inv-loop μ-loop
 with-instruction-requires c κs =
     let a = c .before .before .before .before .before .before .before .args in
     let inv = c .before .before .before .before .before .loop .inv in
-    (omega (arith, inv .2), omega (arith, c .before .before .before .instruction-question .ensures (a .processors) (a .p) (instructionsOf (c .before .before .before .before .before .loop .instructions)) .ends _ (c .before .asked2 .given .1), c .before .before .before .instruction-question .ensures (a .processors) (a .p) (instructionsOf (c .before .before .before .before .before .loop .instructions)) .long _ (c .before .asked2 .given .1)), omega arith, inv .1 .bounded, inv .1 .counted)
+    let e = c .before .before .before .instruction-question .ensures (a .processors) (a .p) (instructionsOf (c .before .before .before .before .before .loop .instructions)) in
+    let g = c .before .asked2 .given .1 in
+    (omega (arith, inv .2), (omega (arith, e .answered .ends _ g, e .answered .long _ g), e .small _ g), omega arith, inv .1 .bounded, inv .1 .counted)
 
 add-at : tie.Need-add-at Inv-loop μ-loop
 add-at c =
     let a = c .before .before .before .before .before .before .before .before .args in
-    omega (arith, c .before .before .before .before .instruction-question .ensures (a .processors) (a .p) (instructionsOf (c .before .before .before .before .before .before .loop .instructions)) .ends _ (c .before .before .asked2 .given .1))
+    omega (arith, c .before .before .before .before .instruction-question .ensures (a .processors) (a .p) (instructionsOf (c .before .before .before .before .before .before .loop .instructions)) .answered .ends _ (c .before .before .asked2 .given .1))
 
 add-i : tie.Need-add-i Inv-loop μ-loop
 add-i c = search needs
@@ -62,9 +64,9 @@ loop-again c =
     let a = c .before .before .before .before .before .before .before .before .args in
     let inv = c .before .before .before .before .before .before .loop .inv in
     let more = c .with-instruction .ensures in (
-      subst (Going (readInstruction (a .processors) (a .lines) (a .p)) _ _ _ _ _) (sym (more .holds))
+      subst (Going (readInstruction (a .processors) (attributesOf (a .lines)) (a .p)) _ _ _ _ _) (sym (more .holds))
           (going-on (inv .0) (c .before .before .before .before .before .loop-test .taken)
-          (c .before .before .before .before .instruction-question .ensures (a .processors) (a .p) _) (c .before .before .asked2 .given .1)),
+          (c .before .before .before .before .instruction-question .ensures (a .processors) (a .p) _ .answered) (c .before .before .asked2 .given .1)),
       record { few = omega (arith, more .one, inv .2); counted = more .counted; bounded = more .bounded },
       omega (arith, more .one, inv .2),
     )

@@ -3,6 +3,7 @@ use native.Mathlib.Omega.{arith}
 use Rattle.record_decoded.proofs.Items.{refused-walk}
 use Rattle.record_programs.proofs.ProgramLaws.{instructions-fail, instructions-many, instructions-read}
 use borrow.Author.Needs.{needs}
+use Rattle.record_decoded.specs.Decoded.{attributesOf}
 use Rattle.record_programs.proofs.read_instructions.Statement.{statement}
 use Rattle.record_programs.proofs.read_instructions.Tie as tie
 
@@ -20,7 +21,7 @@ returns c =
     let a = c .before .before .before .before .before .before .before .before .args in
     let w = c .before .before .before .before .before .before .read-programs .ensures in
     record {
-      walked = refused-walk (instructions-many (a .processors) (a .lines) (a .part .now) (w .walked) (c .before .before .before .step2 .given .1) (omega (arith, w .counts .counted)));
+      walked = refused-walk (instructions-many (a .processors) (attributesOf (a .lines)) (a .part .now) (w .walked) (c .before .before .before .step2 .given .1) (omega (arith, w .counts .counted)));
       counts = w .counts;
     }
 
@@ -29,7 +30,7 @@ returns-2 c =
     let a = c .before .before .before .before .before .before .args in
     let w = c .before .before .before .before .read-programs .ensures in
     record {
-      walked = refused-walk (instructions-fail (a .processors) (a .lines) (a .part .now) (w .walked) (c .before .step .given .1));
+      walked = refused-walk (instructions-fail (a .processors) (attributesOf (a .lines)) (a .part .now) (w .walked) (c .before .step .given .1));
       counts = w .counts;
     }
 
@@ -38,7 +39,7 @@ returns-3 c =
     let a = c .before .before .before .before .before .before .before .before .args in
     let w = c .before .before .before .before .before .before .read-programs .ensures in
     record {
-      walked = instructions-read (a .processors) (a .lines) (a .part .now) (w .walked) (c .before .before .before .step2 .given .1) (omega (arith, w .counts .counted));
+      walked = instructions-read (a .processors) (attributesOf (a .lines)) (a .part .now) (w .walked) (c .before .before .before .step2 .given .1) (omega (arith, w .counts .counted));
       counts = w .counts;
     }
 

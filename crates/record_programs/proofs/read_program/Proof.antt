@@ -1,6 +1,6 @@
 -- The count and its question, then the instructions.
 use native.Mathlib.Omega.{arith}
-use Rattle.record_decoded.specs.Decoded.{instructionsOf}
+use Rattle.record_decoded.specs.Decoded.{attributesOf, instructionsOf}
 use Rattle.record_decoded.proofs.Arrays.{instructions-length}
 use Rattle.record_decoded.proofs.Items.{refused-walk, same-walk}
 use Rattle.record_programs.proofs.ProgramLaws.{program-short, program-many, program-counted}
@@ -12,7 +12,7 @@ returns : tie.Need-returns
 returns c =
     let a = c .before .before .args in
     record {
-      walked = refused-walk (program-short (a .processors) (a .lines) (a .p) (instructionsOf (a .is)) (a .part .now) (c .if1 .taken));
+      walked = refused-walk (program-short (a .processors) (attributesOf (a .lines)) (a .p) (instructionsOf (a .is)) (a .part .now) (c .if1 .taken));
       counts = c .before .before .pre .1;
     }
 
@@ -29,7 +29,7 @@ returns-2 : tie.Need-returns-2
 returns-2 c =
     let a = c .before .before .before .before .before .before .args in
     record {
-      walked = refused-walk (program-many (a .processors) (a .lines) (a .p) (instructionsOf (a .is)) (a .part .now) (omega arith)
+      walked = refused-walk (program-many (a .processors) (attributesOf (a .lines)) (a .p) (instructionsOf (a .is)) (a .part .now) (omega arith)
           (omega (arith, instructions-length (a .is), c .before .wide .ensures .0)));
       counts = c .before .before .before .before .before .before .pre .1;
     }
@@ -42,7 +42,7 @@ returns-3 c =
     let a = c .before .before .before .before .before .before .before .args in
     let w = c .program-entries .ensures in
     record {
-      walked = same-walk (program-counted (a .processors) (a .lines) (a .p) (instructionsOf (a .is)) (a .part .now) (omega arith)
+      walked = same-walk (program-counted (a .processors) (attributesOf (a .lines)) (a .p) (instructionsOf (a .is)) (a .part .now) (omega arith)
           (omega (arith, instructions-length (a .is), c .before .before .wide .ensures .0, c .before .before .before .before .before .before .before .pre .1 .few))) (w .walked);
       counts = w .counts;
     }

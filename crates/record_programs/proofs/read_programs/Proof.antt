@@ -4,7 +4,7 @@ use native.Mathlib.Omega.{arith}
 use mathlib.Core.Path.{ap}
 use lib.ListN.{length, length-drop}
 use Rattle.base.proofs.Copies.{rest}
-use Rattle.record_decoded.specs.Decoded.{instructionsOf, Counted}
+use Rattle.record_decoded.specs.Decoded.{attributesOf, instructionsOf, Counted}
 use Rattle.record_decoded.proofs.Items.{refused-walk}
 use Rattle.record_programs.proofs.ProgramLaws.{counted-none, Programs, programs-start, programs-on, programs-fail, programs-end}
 use borrow.Author.Needs.{needs}
@@ -12,7 +12,7 @@ use Rattle.record_programs.proofs.read_programs.Statement.{statement}
 use Rattle.record_programs.proofs.read_programs.Tie as tie
 
 abbrev Inv-loop : tie.InvT-loop
-Inv-loop part lines processors instructions₀ at₀ p₀ instructions at p = Programs processors lines part p at (instructionsOf instructions) × Counted processors instructions
+Inv-loop part lines processors instructions₀ at₀ p₀ instructions at p = Programs processors (attributesOf lines) part p at (instructionsOf instructions) × Counted processors instructions
 
 abbrev μ-loop : tie.MeasureT-loop
 μ-loop part lines processors instructions₀ at₀ p₀ instructions at p = processors - p

@@ -1,9 +1,11 @@
 -- The instruction's bytes go to the next place of each array: one instruction more.
 use native.Mathlib.Omega.{arith}
 use mathlib.Core.Path.{_≡_, ap, _∙_}
-use Prim.Native.Nat.{ℕ, _+_}
-use lib.ListN.{length, getD}
+use Prim.Native.Nat.{ℕ, _+_, _*_}
+use lib.ListN.{length, getD, drop}
+use lib.Seq.{paste}
 use Rattle.model.specs.Execution.{Kind, kindOf, roles}
+use Rattle.model.specs.Questions.{moreLength}
 use Rattle.record_decoded.specs.Kinds.{meant}
 use Rattle.record_programs.proofs.InstructionLaws.{Sized, few-roles, instruction-more}
 use borrow.Author.Needs.{needs}
@@ -52,19 +54,27 @@ mul-firsts c = search needs
 array-write-firsts : tie.Need-array-write-firsts
 array-write-firsts c = search needs
 
-slice-aggregate-copy-eight : tie.Need-slice-aggregate-copy-eight
-slice-aggregate-copy-eight c = search needs
+more-length-requires : tie.Need-more-length-requires
+more-length-requires c κs = search needs
 
-mul-copy-eight : tie.Need-mul-copy-eight
-mul-copy-eight c = search needs
+add-data : tie.Need-add-data
+add-data c = search needs
 
-add-copy-eight : tie.Need-add-copy-eight
-add-copy-eight c = search needs
+slice-aggregate-copy-bytes : tie.Need-slice-aggregate-copy-bytes
+slice-aggregate-copy-bytes c = search needs
 
-copy-eight-requires : tie.Need-copy-eight-requires
-copy-eight-requires c κs =
-    let z : length (c .before .before .before .before .before .before .before .before .before .before .before .before .before .args .x .bytes) ≡ 320 = search needs in
-    (omega arith, omega arith)
+mul-copy-bytes : tie.Need-mul-copy-bytes
+mul-copy-bytes c = search needs
+
+add-copy-bytes : tie.Need-add-copy-bytes
+add-copy-bytes c = search needs
+
+copy-bytes-requires : tie.Need-copy-bytes-requires
+copy-bytes-requires c κs =
+    let z : length (c .before .before .before .before .before .before .before .before .before .before .before .before .before .before .args .x .bytes) ≡ 640 = search needs in
+    let m = c .before .more-length .ensures in
+    let there = c .before .before .before .before .before .before .before .before .before .before .before .before .before .before .pre .1 .0 in
+    (omega arith, omega (arith, m .0, ap moreLength (c .before .before .before .before .before .kind-of .ensures)))
 
 add-count : tie.Need-add-count
 add-count c = search needs
@@ -74,13 +84,13 @@ operation-count-requires c κs = search needs
 
 add-operations : tie.Need-add-operations
 add-operations c =
-    let a = c .before .before .before .before .before .before .before .before .before .before .before .before .before .before .before .before .args in
+    let a = c .before .before .before .before .before .before .before .before .before .before .before .before .before .before .before .before .before .args in
     let n = c .operation-count .ensures in
-    omega (arith, few-roles (a .processors) (meant (c .before .before .before .before .before .before .before .kind-of .result)) (omega arith))
+    omega (arith, few-roles (a .processors) (meant (c .before .before .before .before .before .before .before .before .kind-of .result)) (omega arith))
 
 returns : tie.Need-returns
 returns c =
-    let a = c .before .before .before .before .before .before .before .before .before .before .before .before .before .before .before .before .args in
+    let a = c .before .before .before .before .before .before .before .before .before .before .before .before .before .before .before .before .before .args in
     let sized : Sized (a .x) = record {
       processors = search needs;
       kinds = search needs;
@@ -90,9 +100,11 @@ returns c =
       bytes = search needs;
     } in
     let n : a .x .operations + c .operation-count .result ≡ a .x .operations + length (roles (a .processors) (kindOf (getD (a .part .now) (a .at) 0))) =
-    ap (λ (m : ℕ). a .x .operations + m) (c .operation-count .ensures ∙ ap (λ (k : Kind). length (roles (a .processors) k)) (c .before .before .before .before .before .before .before .kind-of .ensures)) in
-    instruction-more (a .processors) (a .x) (a .part .now) (a .at) (a .p) (a .x .operations + c .operation-count .result) (c .before .before .copy-eight .last .0) sized
-    (omega arith) (omega arith) (c .before .before .before .before .before .before .before .before .before .before .before .before .before .before .before .before .pre .4) (c .before .before .copy-eight .ensures) (omega arith) (omega arith) n
+    ap (λ (m : ℕ). a .x .operations + m) (c .operation-count .ensures ∙ ap (λ (k : Kind). length (roles (a .processors) k)) (c .before .before .before .before .before .before .before .before .kind-of .ensures)) in
+    let kind = c .before .before .before .before .before .before .before .before .kind-of .ensures in
+    let more = c .before .before .before .before .more-length .ensures .0 in
+    instruction-more (a .processors) (a .x) (a .part .now) (a .at) (a .p) (a .x .operations + c .operation-count .result) (c .before .before .copy-bytes .last .0) sized
+    (omega arith) (c .before .before .before .before .before .before .before .before .before .before .before .before .before .before .before .before .before .pre .1) (c .before .before .before .before .before .before .before .before .before .before .before .before .before .before .before .before .before .pre .4) (c .before .before .copy-bytes .ensures ∙ ap (λ (m : ℕ). paste (a .x .bytes) (16 * a .x .count) (drop (a .at + 3) (a .part .now)) (8 + m)) (more ∙ ap moreLength kind)) (omega arith) (omega arith) n
 
 pub with-instruction-spec : {M : Type 1} → statement M
 with-instruction-spec =
@@ -112,10 +124,12 @@ with-instruction-spec =
     cast-firsts
     mul-firsts
     array-write-firsts
-    slice-aggregate-copy-eight
-    mul-copy-eight
-    add-copy-eight
-    copy-eight-requires
+    more-length-requires
+    add-data
+    slice-aggregate-copy-bytes
+    mul-copy-bytes
+    add-copy-bytes
+    copy-bytes-requires
     add-count
     operation-count-requires
     add-operations

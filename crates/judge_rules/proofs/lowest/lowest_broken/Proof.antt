@@ -12,10 +12,10 @@ use Rattle.judge_rules.proofs.lowest.lowest_broken.Statement.{statement
 use Rattle.judge_rules.proofs.lowest.lowest_broken.Tie as tie
 
 abbrev Inv-loop : tie.InvT-loop
-Inv-loop bytes x t marks places k₀ k = (k ≤ 14) × ((n : ℕ) (xs : List ℕ) → Placed n xs places → Decided (executionOf bytes x) xs k)
+Inv-loop bytes x t marks places k₀ k = (k ≤ 16) × ((n : ℕ) (xs : List ℕ) → Placed n xs places → Decided (executionOf bytes x) xs k)
 
 abbrev μ-loop : tie.MeasureT-loop
-μ-loop bytes x t marks places k₀ k = 14 - k
+μ-loop bytes x t marks places k₀ k = 16 - k
 
 loop-holds : tie.Need-loop-holds Inv-loop μ-loop
 loop-holds c = (omega arith, λ n xs p. decided-first (executionOf (c .before .args .bytes .now) (c .before .args .x)) xs)

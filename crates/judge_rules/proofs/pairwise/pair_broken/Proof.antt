@@ -1,9 +1,9 @@
 -- Each rule by its arm.
 use native.Mathlib.Omega.{arith}
 use mathlib.Core.Path.{_∙_}
-use Rattle.judge_rules.specs.Tests.{ownTurned, remoteTurned, releaseSplit, bypassed}
+use Rattle.judge_rules.specs.Tests.{ownTurned, remoteTurned, releaseSplit, bypassed, interrupted}
 use Rattle.base.proofs.Bools.{kept, left-out}
-use Rattle.judge_rules.proofs.Arms.{rule9-is, rule10-is, rule12-is, rule14-is, other-rule}
+use Rattle.judge_rules.proofs.Arms.{rule9-is, rule10-is, rule12-is, rule14-is, rule16-is, other-rule}
 use borrow.Author.Needs.{needs}
 use Rattle.record_decoded.specs.Decoded.{instructionAt}
 use Rattle.judge_rules.proofs.pairwise.pair_broken.Statement.{statement}
@@ -32,6 +32,12 @@ has-mark-requires-4 c κs = search needs
 
 bypassed-requires : tie.Need-bypassed-requires
 bypassed-requires c κs = search needs
+
+has-mark-requires-5 : tie.Need-has-mark-requires-5
+has-mark-requires-5 c κs = search needs
+
+interrupted-requires : tie.Need-interrupted-requires
+interrupted-requires c κs = search needs
 
 returns : tie.Need-returns
 returns c =
@@ -84,10 +90,22 @@ returns-8 c =
 
 returns-9 : tie.Need-returns-9
 returns-9 c =
+    let a = c .before .before .before .before .args in
+    let at = instructionAt (a .is) in
+    kept (c .before .before .has-mark5 .ensures) (c .before .if5 .taken) (c .interrupted .ensures) ∙ rule16-is (a .places .now) (a .rule) (a .marks) (a .operations) (a .processors) (at (a .v .0)) (at (a .w .0)) (omega arith)
+
+returns-10 : tie.Need-returns-10
+returns-10 c =
+    let a = c .before .before .before .args in
+    let at = instructionAt (a .is) in
+    left-out (interrupted (a .places .now) (at (a .v .0)) (at (a .w .0))) (c .before .has-mark5 .ensures) (c .if5 .left) ∙ rule16-is (a .places .now) (a .rule) (a .marks) (a .operations) (a .processors) (at (a .v .0)) (at (a .w .0)) (omega arith)
+
+returns-11 : tie.Need-returns-11
+returns-11 c =
     let a = c .before .args in
     let at = instructionAt (a .is) in
     let r = c .match .rest in
-    other-rule (a .places .now) (a .rule) (a .marks) (a .operations) (a .processors) (at (a .v .0)) (at (a .w .0)) (r .0 .0 .0 .1) (r .0 .0 .1) (r .0 .1) (r .1)
+    other-rule (a .places .now) (a .rule) (a .marks) (a .operations) (a .processors) (at (a .v .0)) (at (a .w .0)) (r .0 .0 .0 .0 .1) (r .0 .0 .0 .1) (r .0 .0 .1) (r .0 .1) (r .1)
 
 pub pair-broken-spec : {M : Type 1} → statement M
 pair-broken-spec =
@@ -101,6 +119,8 @@ pair-broken-spec =
     release-split-requires
     has-mark-requires-4
     bypassed-requires
+    has-mark-requires-5
+    interrupted-requires
     returns
     returns-2
     returns-3
@@ -109,4 +129,6 @@ pair-broken-spec =
     returns-6
     returns-7
     returns-8
-    returns-9)
+    returns-9
+    returns-10
+    returns-11)

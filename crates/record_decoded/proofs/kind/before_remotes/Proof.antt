@@ -2,7 +2,7 @@
 use borrow.Author.Needs.{needs}
 use native.Mathlib.Omega.{arith}
 use Rattle.model.specs.Execution.{remotesAt}
-use Rattle.model.proofs.Numbers.{one-before-remotes}
+use Rattle.model.proofs.Numbers.{some-before-remotes}
 use Rattle.record_decoded.specs.Kinds.{meant}
 use Rattle.record_decoded.proofs.kind.before_remotes.Statement.{statement}
 use Rattle.record_decoded.proofs.kind.before_remotes.Tie as tie
@@ -17,7 +17,7 @@ returns : tie.Need-returns
 unfolding remotesAt
 returns c =
     let r = c .before .kind-row .ensures in
-    let one = one-before-remotes (meant (c .before .before .args .k)) in
+    let (some, few) = some-before-remotes (meant (c .before .before .args .k)) in
     (omega (arith, r .before-is, c .wide16 .ensures .0), omega (arith, r .before-is, c .wide16 .ensures .0), omega (arith, r .before-is, c .wide16 .ensures .0))
 
 pub before-remotes-spec : {M : Type 1} → statement M

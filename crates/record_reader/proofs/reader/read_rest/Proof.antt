@@ -1,10 +1,10 @@
 -- The programs, then what follows them.
 use mathlib.Core.Path.{sym, ap, _∙_}
 use lib.ListN.{drop}
-use Rattle.record_decoded.proofs.Arrays.{lines-length}
+use Rattle.record_decoded.proofs.Arrays.{attributes-are}
 use Rattle.base.proofs.Copies.{rest}
 use Rattle.model.specs.Calls.{answerOf}
-use Rattle.record_decoded.specs.Decoded.{linesOf, instructionsOf}
+use Rattle.record_decoded.specs.Decoded.{linesOf, attributesOf, instructionsOf}
 use Rattle.record_reader.specs.Readings.{afterInstructions}
 use Rattle.record_reader.proofs.ReadingLaws.{rest-fails, rest-read}
 use borrow.Author.Needs.{needs}
@@ -38,12 +38,12 @@ read-end-requires c κs = search needs
 returns : tie.Need-returns
 returns c =
     let a = c .before .before .before .before .before .before .before .args in
-    λ bytes. rest-fails (a .processors) (linesOf (drop 1 bytes) (a .lines)) (a .lines .count) (lines-length (drop 1 bytes) (a .lines)) (a .part .now) (c .before .before .before .before .before .read-instructions .ensures .walked) (c .before .before .step .given .1) ∙ c .refused .ensures bytes
+    λ bytes. rest-fails (a .processors) (linesOf (drop 1 bytes) (a .lines)) (attributesOf (a .lines)) (attributes-are (drop 1 bytes) (a .lines)) (a .part .now) (c .before .before .before .before .before .read-instructions .ensures .walked) (c .before .before .step .given .1) ∙ c .refused .ensures bytes
 
 returns-2 : tie.Need-returns-2
 returns-2 c =
     let a = c .before .before .before .before .before .before .before .before .args in
-    λ bytes. rest-read (a .processors) (linesOf (drop 1 bytes) (a .lines)) (a .lines .count) (lines-length (drop 1 bytes) (a .lines)) (a .part .now) (c .before .before .before .before .before .before .read-instructions .ensures .walked) (c .before .before .before .step2 .given .1)
+    λ bytes. rest-read (a .processors) (linesOf (drop 1 bytes) (a .lines)) (attributesOf (a .lines)) (attributes-are (drop 1 bytes) (a .lines)) (a .part .now) (c .before .before .before .before .before .before .read-instructions .ensures .walked) (c .before .before .before .step2 .given .1)
     ∙ ap (λ l. answerOf (afterInstructions (a .processors) (linesOf (drop 1 bytes) (a .lines)) (instructionsOf (c .before .before .before .before .before .before .read-instructions .result .instructions)) l))
     (sym (rest (c .before .before .before .step2 .given .0 .0) (a .part .now)))
     ∙ c .read-end .ensures bytes

@@ -1,4 +1,4 @@
--- No mark, the first rule that links, an RV that none of rules 1, 3 and 4 links, and rule 13 at last.
+-- No mark, the first rule that links, an RV that none of rules 1, 3 and 4 links, and rule 15 at last.
 use native.Mathlib.Omega.{arith}
 use lib.Bits.{and-mask}
 use mathlib.Core.Path.{sym, _∙_}
@@ -90,17 +90,26 @@ link-requires-9 c κs = search needs
 
 returns-11 : tie.Need-returns-11
 returns-11 c =
-    let a = c .before .before .before .before .before .before .before .before .before .before .before .before .before .before .before .before .before .before .before .args in
-    c .link9 .ensures
+    let a = c .before .before .before .before .before .before .before .before .before .before .before .before .before .before .before .before .before .before .before .before .args in
+    rule-links (a .marks) (a .processor) (roleNumbered (a .a)) (roleNumbered (a .b)) 13 (omega arith) (sym (c .before .link9 .ensures) ∙ c .if11 .taken)
+
+link-requires-10 : tie.Need-link-requires-10
+link-requires-10 c κs = search needs
+
+returns-12 : tie.Need-returns-12
+returns-12 c =
+    let a = c .before .before .before .before .before .before .before .before .before .before .before .before .before .before .before .before .before .before .before .before .before .args in
+    c .link10 .ensures
     ∙ last-rule (a .marks) (a .processor) (roleNumbered (a .a)) (roleNumbered (a .b))
-    (sym (c .before .before .before .before .before .before .before .before .before .before .before .before .before .before .before .before .before .link .ensures) ∙ c .before .before .before .before .before .before .before .before .before .before .before .before .before .before .before .before .if2 .left)
-    (sym (c .before .before .before .before .before .before .before .before .before .before .link4 .ensures) ∙ c .before .before .before .before .before .before .before .before .before .if6 .left)
-    (sym (c .before .before .before .before .before .before .before .before .before .before .before .before .before .before .before .link2 .ensures) ∙ c .before .before .before .before .before .before .before .before .before .before .before .before .before .before .if3 .left)
-    (sym (c .before .before .before .before .before .before .before .before .before .before .before .before .before .link3 .ensures) ∙ c .before .before .before .before .before .before .before .before .before .before .before .before .if4 .left)
-    (sym (c .before .before .before .before .before .before .before .before .link5 .ensures) ∙ c .before .before .before .before .before .before .before .if7 .left)
-    (sym (c .before .before .before .before .before .before .link6 .ensures) ∙ c .before .before .before .before .before .if8 .left)
-    (sym (c .before .before .before .before .link7 .ensures) ∙ c .before .before .before .if9 .left)
-    (sym (c .before .before .link8 .ensures) ∙ c .before .if10 .left)
+    (sym (c .before .before .before .before .before .before .before .before .before .before .before .before .before .before .before .before .before .before .before .link .ensures) ∙ c .before .before .before .before .before .before .before .before .before .before .before .before .before .before .before .before .before .before .if2 .left)
+    (sym (c .before .before .before .before .before .before .before .before .before .before .before .before .link4 .ensures) ∙ c .before .before .before .before .before .before .before .before .before .before .before .if6 .left)
+    (sym (c .before .before .before .before .before .before .before .before .before .before .before .before .before .before .before .before .before .link2 .ensures) ∙ c .before .before .before .before .before .before .before .before .before .before .before .before .before .before .before .before .if3 .left)
+    (sym (c .before .before .before .before .before .before .before .before .before .before .before .before .before .before .before .link3 .ensures) ∙ c .before .before .before .before .before .before .before .before .before .before .before .before .before .before .if4 .left)
+    (sym (c .before .before .before .before .before .before .before .before .before .before .link5 .ensures) ∙ c .before .before .before .before .before .before .before .before .before .if7 .left)
+    (sym (c .before .before .before .before .before .before .before .before .link6 .ensures) ∙ c .before .before .before .before .before .before .before .if8 .left)
+    (sym (c .before .before .before .before .before .before .link7 .ensures) ∙ c .before .before .before .before .before .if9 .left)
+    (sym (c .before .before .before .before .link8 .ensures) ∙ c .before .before .before .if10 .left)
+    (sym (c .before .before .link9 .ensures) ∙ c .before .if11 .left)
 
 pub is-linked-spec : {M : Type 1} → statement M
 is-linked-spec =
@@ -125,4 +134,6 @@ is-linked-spec =
     link-requires-8
     returns-10
     link-requires-9
-    returns-11)
+    returns-11
+    link-requires-10
+    returns-12)

@@ -27,7 +27,7 @@ returns-2 : tie.Need-returns-2
 unfolding linkBy
 returns-2 c =
     let a = c .before .before .before .args in
-    left-out (rolesLink (a .rule) (a .processor) (roleNumbered (a .a)) (roleNumbered (a .b)))
+    left-out (rolesLink (a .rule) (a .marks) (a .processor) (roleNumbered (a .a)) (roleNumbered (a .b)))
     (c .before .has-mark .ensures ∙ ap (hasMark (a .marks)) (c .before .before .rule-mark .ensures .0)) (c .if1 .left)
 
 pub link-spec : {M : Type 1} → statement M

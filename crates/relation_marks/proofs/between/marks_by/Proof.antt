@@ -9,6 +9,9 @@ use borrow.Author.Needs.{needs}
 use Rattle.relation_marks.proofs.between.marks_by.Statement.{statement}
 use Rattle.relation_marks.proofs.between.marks_by.Tie as tie
 
+semaphore-marks-requires : tie.Need-semaphore-marks-requires
+semaphore-marks-requires c κs = search needs
+
 memory-marks-requires : tie.Need-memory-marks-requires
 memory-marks-requires c κs = search needs
 
@@ -20,9 +23,9 @@ unrelated-marks-requires c κs = search needs
 
 returns : tie.Need-returns
 returns c =
-    let g = c .before .before .before .before .args in
+    let g = c .before .before .before .before .before .args in
     unrelated-together (g .same) (g .own) (g .earlier) (g .overlaps) (g .given) (meant (g .first)) (meant (g .second)) (attributeMeant (g .of-first)) (attributeMeant (g .of-second))
-    (sym (c .before .before .either .ensures) ∙ not-true (c .before .before .either .result) (c .before .if1 .taken)) (c .unrelated-marks .ensures) (c .before .before .before .memory-marks .ensures .0)
+    (sym (c .before .before .either .ensures) ∙ not-true (c .before .before .either .result) (c .before .if1 .taken)) (c .unrelated-marks .ensures) (c .before .before .before .memory-marks .ensures .0) (c .before .before .before .before .semaphore-marks .ensures .0)
 
 same-domain-requires : tie.Need-same-domain-requires
 same-domain-requires c κs = search needs
@@ -50,19 +53,20 @@ with-mark-requires-4 c κs = search needs
 
 returns-2 : tie.Need-returns-2
 returns-2 c =
-    let g = c .before .before .before .before .before .before .before .before .before .before .before .args in
+    let g = c .before .before .before .before .before .before .before .before .before .before .before .before .args in
     put-together (g .same) (g .own) (g .earlier) (g .overlaps) (g .given) (meant (g .first)) (meant (g .second)) (attributeMeant (g .of-first)) (attributeMeant (g .of-second))
     (c .with-mark4 .ensures .0) (c .before .with-program-marks .ensures .0)
     (mark-more (c .before .before .with-mark3 .ensures .0) (c .before .before .before .both2 .ensures) refl)
     (c .before .before .before .before .with-mark2 .ensures .0)
     (mark-more (c .before .before .before .before .before .with-mark .ensures .0)
     (c .before .before .before .before .before .before .both .ensures ∙ ap (λ (t : Bool). g .earlier && t) (c .before .before .before .before .before .before .before .same-domain .ensures)) refl)
-    (c .before .before .before .before .before .before .before .before .before .before .memory-marks .ensures .0)
+    (c .before .before .before .before .before .before .before .before .before .before .memory-marks .ensures .0) (c .before .before .before .before .before .before .before .before .before .before .before .semaphore-marks .ensures .0)
 
 pub marks-by-spec : {M : Type 1} → statement M
 marks-by-spec =
     tie.close
     (tie.spec
+    semaphore-marks-requires
     memory-marks-requires
     either-requires
     unrelated-marks-requires

@@ -1,10 +1,12 @@
 -- Each turn enters the marks with one instruction more.
 use native.Mathlib.Omega.{arith}
 use Prim.Native.Nat.{ℕ, _-_, _≤_}
-use mathlib.Core.Path.{_≡_, refl}
+use mathlib.Core.Path.{_≡_, refl, _∙_}
 use mathlib.Core.List.{List}
+use lib.ListN.{drop}
 use Rattle.base.proofs.Entries.{Entered, entered-none, entered-more}
 use Rattle.record_decoded.specs.Decoded.{instructionAt, executionOf}
+use Rattle.record_decoded.proofs.Arrays.{attribute-at}
 use Rattle.relation_marks.specs.Marks.{marksBetween}
 use Rattle.relation_marks.proofs.BetweenLaws.{between-made}
 use borrow.Author.Needs.{needs}
@@ -90,7 +92,7 @@ loop-again c =
       omega (arith, c .before .before .before .before .before .before .loop-test .taken),
       entered-more (c .before .before .before .before .before .before .before .loop .inv .1) (c .marks-by .result) (omega (arith, c .before .before .before .before .before .before .loop-test .taken, c .before .before .before .before .before .before .before .before .before .before .before .before .before .before .before .pre .1))
           (λ bytes. between-made bytes (g .x) (g .i .0) (c .before .before .before .before .before .before .before .loop .k) refl refl (c .before .before .before .before .before .both .ensures) (c .before .before .before .before .before .before .before .before .before .kind-of .ensures) (c .before .before .kind-of2 .ensures) (c .before .before .before .before .shares-byte .ensures)
-          (c .before .before .before .before .before .before .before .before .attribute-in .ensures _) (c .before .attribute-in2 .ensures _) (c .before .before .before .is-pair .ensures) (c .marks-by .ensures)),
+          (c .before .before .before .before .before .before .before .before .attribute-in .ensures ∙ attribute-at (drop 1 bytes) (g .x .lines) _) (c .before .attribute-in2 .ensures ∙ attribute-at (drop 1 bytes) (g .x .lines) _) (c .before .before .before .is-pair .ensures) (c .marks-by .ensures)),
     )
 
 returns : tie.Need-returns Inv-loop μ-loop

@@ -96,7 +96,7 @@ returns c =
           (c .before .before .before .before .before .before .before .before .before .both9 .ensures
           ∙ ap₂ _&&_ (c .before .before .before .before .before .before .before .before .before .before .before .before .before .both6 .ensures ∙ ap₂ _&&_ (c .before .before .before .before .before .before .before .before .before .before .before .before .before .before .before .is-store3 .ensures) (c .before .before .before .before .before .before .before .before .before .before .before .before .before .before .is-load .ensures))
           (c .before .before .before .before .before .before .before .before .before .before .both8 .ensures ∙ ap₂ _&&_ (c .before .before .before .before .before .before .before .before .before .before .before .before .is-uc .ensures) (c .before .before .before .before .before .before .before .before .before .before .before .both7 .ensures)))
-          (c .before .before .with-mark .ensures .0 ∙ ap (λ (t : Bool). cond t 1 0 + 2 * 0) (c .before .before .before .both12 .ensures
+          (c .before .before .with-mark .ensures .0 ∙ ap (λ (t : Bool). cond t 1 0 + 2 * a .above) (c .before .before .before .both12 .ensures
           ∙ ap (λ (t : Bool). a .same && t)
           (c .before .before .before .before .both11 .ensures ∙ ap₂ _&&_ (c .before .before .before .before .before .is-store4 .ensures) (c .before .before .before .before .before .before .both10 .ensures ∙ ap₂ _&&_ (c .before .before .before .before .before .before .before .before .is-release .ensures) (c .before .before .before .before .before .before .before .is-wb .ensures)))))),
       omega (arith, c .with-mark3 .ensures .1, c .before .with-mark2 .ensures .1, c .before .before .with-mark .ensures .1),

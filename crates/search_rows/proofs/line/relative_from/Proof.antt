@@ -12,14 +12,17 @@ use Rattle.search_rows.proofs.line.relative_from.Statement.{statement}
 use Rattle.search_rows.proofs.line.relative_from.Tie as tie
 
 abbrev Inv-loop : tie.InvT-loop
-Inv-loop bytes count saw address size at place word₀ j₀ word j =
+Inv-loop bytes count saw from address size at place word₀ j₀ word j =
     BytesIn (λ i. bit (relative (getD saw (at + (i / 8 - place)) 0) (initialOf bytes count (8 * (address / 8) + i / 8))) (i % 8)) place size j word
 
 abbrev μ-loop : tie.MeasureT-loop
-μ-loop bytes count saw address size at place word₀ j₀ word j = size - j
+μ-loop bytes count saw from address size at place word₀ j₀ word j = size - j
 
 mul-at : tie.Need-mul-at Inv-loop μ-loop
 mul-at c = search needs
+
+add-at : tie.Need-add-at Inv-loop μ-loop
+add-at c = search needs
 
 loop-holds : tie.Need-loop-holds Inv-loop μ-loop
 loop-holds c = bytes-none
@@ -52,11 +55,11 @@ loop-again : tie.Need-loop-again Inv-loop μ-loop
 loop-again c =
     let a = c .before .before .before .before .before .before .before .args in
     let j = c .before .before .before .before .loop .j in
-    bytes-more (c .before .before .before .before .loop .inv) (c .before .before .before .loop-test .taken) (c .with-byte .result) (relative (getD (a .«data» .now) (8 * a .w .0 + j) 0) (c .before .before .initial-byte .result)) (c .with-byte .ensures)
+    bytes-more (c .before .before .before .before .loop .inv) (c .before .before .before .loop-test .taken) (c .with-byte .result) (relative (getD (a .«data» .now) (16 * a .w .0 + a .from + j) 0) (c .before .before .initial-byte .result)) (c .with-byte .ensures)
     (λ i s e.
     let at : j ≡ i / 8 - a .address % 8 = omega arith in
     let here : a .address + j ≡ 8 * (a .address / 8) + i / 8 = omega arith in
-    ap₂ (λ (v u : ℕ). bit (relative (getD (a .«data» .now) (8 * a .w .0 + v) 0) u) (i % 8)) at (c .before .before .initial-byte .ensures ∙ ap (initialOf (a .bytes .now) (a .count)) here))
+    ap₂ (λ (v u : ℕ). bit (relative (getD (a .«data» .now) (16 * a .w .0 + a .from + v) 0) u) (i % 8)) at (c .before .before .initial-byte .ensures ∙ ap (initialOf (a .bytes .now) (a .count)) here))
 
 returns : tie.Need-returns Inv-loop μ-loop
 returns c = λ i s. bytes-in (c .before .loop .inv) (c .loop-test .left) i s
@@ -68,6 +71,7 @@ relative-from-spec =
     Inv-loop
     μ-loop
     mul-at
+    add-at
     loop-holds
     add-here
     initial-byte-requires

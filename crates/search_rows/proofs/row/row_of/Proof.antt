@@ -102,16 +102,27 @@ element-copy-out-covered c =
     let s = c .before .before .before .before .before .before .before .before .before .before .before .before .before .before .before .before in
     owner-few (s .pre .0 []) (s .pre .1 []) (s .args .o .0) (s .pre .2) (s .pre .3) (c .before .before .before .before .before .before .before .before .before .before .before .before .before .before .wide .result) (c .before .before .before .before .before .before .before .before .before .before .before .before .before .before .wide .ensures .0) .0
 
-mul-value : tie.Need-mul-value
-mul-value c =
+mul-saw : tie.Need-mul-saw
+mul-saw c =
     let s = c .before .before .before .before .before .before .before .before .before .before .before .before .before .before .before .before .before in
     let few = owner-few (s .pre .0 []) (s .pre .1 []) (s .args .o .0) (s .pre .2) (s .pre .3) (c .before .before .before .before .before .before .before .before .before .before .before .before .before .before .before .wide .result) (c .before .before .before .before .before .before .before .before .before .before .before .before .before .before .before .wide .ensures .0) .0 in
     search needs
 
-element-copy-out-value : tie.Need-element-copy-out-value
-element-copy-out-value c =
+element-copy-out-saw : tie.Need-element-copy-out-saw
+element-copy-out-saw c =
     let s = c .before .before .before .before .before .before .before .before .before .before .before .before .before .before .before .before .before in
     owner-few (s .pre .0 []) (s .pre .1 []) (s .args .o .0) (s .pre .2) (s .pre .3) (c .before .before .before .before .before .before .before .before .before .before .before .before .before .before .before .wide .result) (c .before .before .before .before .before .before .before .before .before .before .before .before .before .before .before .wide .ensures .0) .0
+
+mul-wrote : tie.Need-mul-wrote
+mul-wrote c =
+    let s = c .before .before .before .before .before .before .before .before .before .before .before .before .before .before .before .before .before .before in
+    let few = owner-few (s .pre .0 []) (s .pre .1 []) (s .args .o .0) (s .pre .2) (s .pre .3) (c .before .before .before .before .before .before .before .before .before .before .before .before .before .before .before .before .wide .result) (c .before .before .before .before .before .before .before .before .before .before .before .before .before .before .before .before .wide .ensures .0) .0 in
+    search needs
+
+element-copy-out-wrote : tie.Need-element-copy-out-wrote
+element-copy-out-wrote c =
+    let s = c .before .before .before .before .before .before .before .before .before .before .before .before .before .before .before .before .before .before in
+    owner-few (s .pre .0 []) (s .pre .1 []) (s .args .o .0) (s .pre .2) (s .pre .3) (c .before .before .before .before .before .before .before .before .before .before .before .before .before .before .before .before .wide .result) (c .before .before .before .before .before .before .before .before .before .before .before .before .before .before .before .before .wide .ensures .0) .0
 
 is-writing-requires : tie.Need-is-writing-requires
 is-writing-requires c κs = search needs
@@ -123,7 +134,7 @@ wanted-requires-2 : tie.Need-wanted-requires-2
 wanted-requires-2 c κs = search needs
 
 word-of-requires : tie.Need-word-of-requires
-word-of-requires c κs = (c .before .before .before .before .before .before .before .before .before .before .before .before .wide2 .ensures .1, omega (arith, c .before .before .before .before .before .before .before .before .before .before .wide3 .ensures .1))
+word-of-requires c κs = (c .before .before .before .before .before .before .before .before .before .before .before .before .before .wide2 .ensures .1, omega (arith, c .before .before .before .before .before .before .before .before .before .before .before .wide3 .ensures .1))
 
 wanted-requires-3 : tie.Need-wanted-requires-3
 wanted-requires-3 c κs = search needs
@@ -132,16 +143,16 @@ wanted-requires-4 : tie.Need-wanted-requires-4
 wanted-requires-4 c κs = search needs
 
 visible-at-requires : tie.Need-visible-at-requires
-visible-at-requires c κs = (c .before .before .before .before .before .before .before .before .before .before .before .before .before .before .before .wide2 .ensures .1, omega (arith, c .before .before .before .before .before .before .before .before .before .before .before .before .before .wide3 .ensures .1))
+visible-at-requires c κs = (c .before .before .before .before .before .before .before .before .before .before .before .before .before .before .before .before .wide2 .ensures .1, omega (arith, c .before .before .before .before .before .before .before .before .before .before .before .before .before .before .wide3 .ensures .1))
 
 own-at-requires : tie.Need-own-at-requires
-own-at-requires c κs = (c .before .before .before .before .before .before .before .before .before .before .before .before .before .before .before .before .wide2 .ensures .1, omega (arith, c .before .before .before .before .before .before .before .before .before .before .before .before .before .before .wide3 .ensures .1))
+own-at-requires c κs = (c .before .before .before .before .before .before .before .before .before .before .before .before .before .before .before .before .before .wide2 .ensures .1, omega (arith, c .before .before .before .before .before .before .before .before .before .before .before .before .before .before .before .wide3 .ensures .1))
 
 number-of-requires : tie.Need-number-of-requires
-number-of-requires c κs = (c .before .before .before .before .before .before .before .before .before .before .before .before .before .before .before .before .before .before .before .wide16 .ensures .1, omega (arith, c .before .before .before .before .before .before .before .before .before .before .before .before .before .before .before .before .before .wide2 .ensures .1))
+number-of-requires c κs = (c .before .before .before .before .before .before .before .before .before .before .before .before .before .before .before .before .before .before .before .before .wide16 .ensures .1, omega (arith, c .before .before .before .before .before .before .before .before .before .before .before .before .before .before .before .before .before .before .wide2 .ensures .1))
 
 number-of-requires-2 : tie.Need-number-of-requires-2
-number-of-requires-2 c κs = (c .before .before .before .before .before .before .before .before .before .before .before .before .before .before .before .before .before .before .before .before .wide16 .ensures .1, omega arith)
+number-of-requires-2 c κs = (c .before .before .before .before .before .before .before .before .before .before .before .before .before .before .before .before .before .before .before .before .before .wide16 .ensures .1, omega arith)
 
 number-or-own-requires : tie.Need-number-or-own-requires
 number-or-own-requires c κs = search needs
@@ -149,23 +160,26 @@ number-or-own-requires c κs = search needs
 number-or-own-requires-2 : tie.Need-number-or-own-requires-2
 number-or-own-requires-2 c κs = search needs
 
+read-or-own-requires : tie.Need-read-or-own-requires
+read-or-own-requires c κs = c .before .before .before .before .before .before .before .before .before .before .before .before .before .before .before .before .before .before .before .before .before .before .before .before .wide16 .ensures .1
+
 returns : tie.Need-returns
 returns c =
-    let s = c .before .before .before .before .before .before .before .before .before .before .before .before .before .before .before .before .before .before .before .before .before .before .before .before .before .before .before .before .before .before in
+    let s = c .before .before .before .before .before .before .before .before .before .before .before .before .before .before .before .before .before .before .before .before .before .before .before .before .before .before .before .before .before .before .before .before in
     let g = s .args in
     let pre = s .pre in
     let lent = pre .3 in
-    let w = c .before .before .before .before .before .before .before .before .before .before .before .before .before .before .before .before .before .before .before .before .before .before .before .before .before .before .before .before .wide .result in
-    let few = owner-few (pre .0 []) (pre .1 []) (g .o .0) (pre .2) lent w (c .before .before .before .before .before .before .before .before .before .before .before .before .before .before .before .before .before .before .before .before .before .before .before .before .before .before .before .before .wide .ensures .0) .1 in
-    λ bytes words. row-is (pre .0 bytes) (pre .1 bytes) (g .o .0) (pre .2) lent _ w (c .before .before .before .before .before .before .before .before .before .before .before .before .before .before .before .before .before .before .before .before .before .before .before .wide16 .result) (c .before .before .before .before .before .before .before .before .before .before .before .before .before .before .before .before .before .before .before .before .before .wide2 .result) (c .before .before .before .before .before .before .before .before .before .before .before .before .before .before .before .before .before .before .before .wide3 .result / 8) (meant (c .before .before .before .before .before .before .before .before .before .before .before .before .before .before .before .before .before .before .before .before .before .before .before .before .before .kind-of .result))
-    (c .before .before .before .before .before .before .before .before .before .before .before .before .before .before .before .before .before .before .before .before .before .before .before .before .before .before .before .before .wide .ensures .0 ∙ ap (λ (own : List ℕ). getD own (g .o .0) 0) (lent .owners-are)) (c .before .before .before .before .before .before .before .before .before .before .before .before .before .before .before .before .before .before .before .before .before .before .before .wide16 .ensures .0) (c .before .before .before .before .before .before .before .before .before .before .before .before .before .before .before .before .before .before .before .before .before .before .before .before .before .kind-of .ensures) (c .before .before .before .before .before .before .before .before .before .before .before .before .before .before .before .before .before .before .before .before .before .wide2 .ensures .0)
-    (ap (λ (a : ℕ). a / 8) (c .before .before .before .before .before .before .before .before .before .before .before .before .before .before .before .before .before .before .before .wide3 .ensures .0))
-    (c .before .before .before .before .before .before .before .before .before .before .before .before .before .before .before .before .before .before .preds-at .ensures) (c .before .before .before .before .before .before .before .before .before .before .before .before .before .before .before .before .partners-at .ensures) (c .before .before .before .before .before .before .before .before .before .before .before .before .before .before .before .awaited-at .ensures) (c .before .before .before .before .before .before .before .before .before .before .before .before .before .before .bypasses-at .ensures)
-    (getD (g .bits .now) w 0) (getD (g .values .now) w 0) (λ i l. pre .4 w i few l) (λ i l. words w i few l)
-    (c .before .before .before .before .before .before .before .before .before .before .before .is-writing .result) (c .before .before .before .before .before .before .before .before .before .before .before .is-writing .ensures)
-    (c .before .before .before .before .before .before .before .before .before .before .wanted .ensures) (c .before .before .before .before .before .before .before .before .before .wanted2 .ensures) (c .before .before .before .before .before .before .before .before .word-of .ensures) (c .before .before .before .before .before .before .before .wanted3 .ensures) (c .before .before .before .before .before .before .wanted4 .ensures) (c .before .before .before .before .before .visible-at .ensures .0) (c .before .before .before .before .own-at .ensures .0)
-    (c .before .before .before .number-of .result .0) (c .before .before .number-of2 .result .0) (c .before .before .before .number-of .ensures) (c .before .before .number-of2 .ensures)
-    (c .before .number-or-own .ensures) (c .number-or-own2 .ensures)
+    let w = c .before .before .before .before .before .before .before .before .before .before .before .before .before .before .before .before .before .before .before .before .before .before .before .before .before .before .before .before .before .before .wide .result in
+    let few = owner-few (pre .0 []) (pre .1 []) (g .o .0) (pre .2) lent w (c .before .before .before .before .before .before .before .before .before .before .before .before .before .before .before .before .before .before .before .before .before .before .before .before .before .before .before .before .before .before .wide .ensures .0) .1 in
+    λ bytes words. row-is (pre .0 bytes) (pre .1 bytes) (g .o .0) (pre .2) lent _ w (c .before .before .before .before .before .before .before .before .before .before .before .before .before .before .before .before .before .before .before .before .before .before .before .before .before .wide16 .result) (c .before .before .before .before .before .before .before .before .before .before .before .before .before .before .before .before .before .before .before .before .before .before .before .wide2 .result) (c .before .before .before .before .before .before .before .before .before .before .before .before .before .before .before .before .before .before .before .before .before .wide3 .result / 8) (meant (c .before .before .before .before .before .before .before .before .before .before .before .before .before .before .before .before .before .before .before .before .before .before .before .before .before .before .before .kind-of .result))
+    (c .before .before .before .before .before .before .before .before .before .before .before .before .before .before .before .before .before .before .before .before .before .before .before .before .before .before .before .before .before .before .wide .ensures .0 ∙ ap (λ (own : List ℕ). getD own (g .o .0) 0) (lent .owners-are)) (c .before .before .before .before .before .before .before .before .before .before .before .before .before .before .before .before .before .before .before .before .before .before .before .before .before .wide16 .ensures .0) (c .before .before .before .before .before .before .before .before .before .before .before .before .before .before .before .before .before .before .before .before .before .before .before .before .before .before .before .kind-of .ensures) (c .before .before .before .before .before .before .before .before .before .before .before .before .before .before .before .before .before .before .before .before .before .before .before .wide2 .ensures .0)
+    (ap (λ (a : ℕ). a / 8) (c .before .before .before .before .before .before .before .before .before .before .before .before .before .before .before .before .before .before .before .before .before .wide3 .ensures .0))
+    (c .before .before .before .before .before .before .before .before .before .before .before .before .before .before .before .before .before .before .before .before .preds-at .ensures) (c .before .before .before .before .before .before .before .before .before .before .before .before .before .before .before .before .before .before .partners-at .ensures) (c .before .before .before .before .before .before .before .before .before .before .before .before .before .before .before .before .before .awaited-at .ensures) (c .before .before .before .before .before .before .before .before .before .before .before .before .before .before .before .before .bypasses-at .ensures)
+    (getD (g .bits .now) w 0) (getD (g .seen .now) w 0) (getD (g .written .now) w 0) (λ i l. pre .4 w i few l) (λ i l. words .seen-is w i few l) (λ i l. words .written-is w i few l)
+    (c .before .before .before .before .before .before .before .before .before .before .before .before .is-writing .result) (c .before .before .before .before .before .before .before .before .before .before .before .before .is-writing .ensures)
+    (c .before .before .before .before .before .before .before .before .before .before .before .wanted .ensures) (c .before .before .before .before .before .before .before .before .before .before .wanted2 .ensures) (c .before .before .before .before .before .before .before .before .before .word-of .ensures) (c .before .before .before .before .before .before .before .before .wanted3 .ensures) (c .before .before .before .before .before .before .before .wanted4 .ensures) (c .before .before .before .before .before .before .visible-at .ensures .0) (c .before .before .before .before .before .own-at .ensures .0)
+    (c .before .before .before .before .number-of .result .0) (c .before .before .before .number-of2 .result .0) (c .before .before .before .before .number-of .ensures) (c .before .before .before .number-of2 .ensures)
+    (c .before .before .number-or-own .ensures) (c .before .number-or-own2 .ensures) (c .read-or-own .ensures)
 
 pub row-of-spec : {M : Type 1} → statement M
 row-of-spec =
@@ -193,8 +207,10 @@ row-of-spec =
     bypasses-at-requires
     mul-covered
     element-copy-out-covered
-    mul-value
-    element-copy-out-value
+    mul-saw
+    element-copy-out-saw
+    mul-wrote
+    element-copy-out-wrote
     is-writing-requires
     wanted-requires
     wanted-requires-2
@@ -207,4 +223,5 @@ row-of-spec =
     number-of-requires-2
     number-or-own-requires
     number-or-own-requires-2
+    read-or-own-requires
     returns)

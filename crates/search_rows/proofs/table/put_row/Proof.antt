@@ -10,10 +10,10 @@ use Rattle.search_rows.proofs.table.put_row.Statement.{statement}
 use Rattle.search_rows.proofs.table.put_row.Tie as tie
 
 abbrev Inv-loop : tie.InvT-loop
-Inv-loop rows₀ row at f₀ rows f = (f ≤ 17) × (at + 17 ≤ 2176) × (length rows₀ ≡ 2176) × Put rows₀ row at f rows
+Inv-loop rows₀ row at f₀ rows f = (f ≤ 18) × (at + 18 ≤ 2304) × (length rows₀ ≡ 2304) × Put rows₀ row at f rows
 
 abbrev μ-loop : tie.MeasureT-loop
-μ-loop rows₀ row at f₀ rows f = 17 - f
+μ-loop rows₀ row at f₀ rows f = 18 - f
 
 mul-at : tie.Need-mul-at Inv-loop μ-loop
 mul-at c = search needs

@@ -10,10 +10,10 @@ use Rattle.search_rows.proofs.table.rows_of.Statement.{statement}
 use Rattle.search_rows.proofs.table.rows_of.Tie as tie
 
 abbrev Inv-loop : tie.InvT-loop
-Inv-loop bytes x t marks n owners roles kinds firsts processors addresses bits values rows₀ o₀ rows o = Filled bytes x t marks n rows o
+Inv-loop bytes x t marks n owners roles kinds firsts processors addresses bits seen written rows₀ o₀ rows o = Filled bytes x t marks n rows o
 
 abbrev μ-loop : tie.MeasureT-loop
-μ-loop bytes x t marks n owners roles kinds firsts processors addresses bits values rows₀ o₀ rows o = n - o
+μ-loop bytes x t marks n owners roles kinds firsts processors addresses bits seen written rows₀ o₀ rows o = n - o
 
 access-words-requires : tie.Need-access-words-requires Inv-loop μ-loop
 access-words-requires c κs =
@@ -25,10 +25,10 @@ loop-holds c = filled-none refl
 
 row-of-requires : tie.Need-row-of-requires Inv-loop μ-loop
 row-of-requires c κs =
-    let s = c .before .before .before .before .before .before .before .before .before .before .before .before .before .before .before .before .before .before .before .before .before in (
+    let s = c .before .before .before .before .before .before .before .before .before .before .before .before .before .before .before .before .before .before .before .before .before .before .before in (
       s .pre .0,
       accepted-anyhow (s .args .bytes .now) (s .args .x) (s .pre .1),
-      c .before .before .before .before .before .before .before .before .loop-test .taken,
+      c .before .before .before .before .before .before .before .before .before .loop-test .taken,
       record {
         owners-are = refl;
         roles-are = refl;
@@ -37,7 +37,7 @@ row-of-requires c κs =
         processors-are = refl;
         addresses-are = refl;
       },
-      c .before .before .before .before .before .before .before .before .before .before .before .before .access-words .ensures .0,
+      c .before .before .before .before .before .before .before .before .before .before .before .before .before .before .access-words .ensures .0,
     )
 
 slice-aggregate-put-row : tie.Need-slice-aggregate-put-row Inv-loop μ-loop
@@ -47,19 +47,19 @@ slice-aggregate-put-row-2 : tie.Need-slice-aggregate-put-row-2 Inv-loop μ-loop
 slice-aggregate-put-row-2 c = search needs
 
 put-row-requires : tie.Need-put-row-requires Inv-loop μ-loop
-put-row-requires c κs = let s = c .before .before .before .before .before .before .before .before .before .before .before .before .before .before .before .before .before .before .before .before .before .before .before .before in (omega (arith, c .before .before .before .before .before .before .before .before .before .before .before .loop-test .taken, s .pre .0 (s .args .bytes .now) .tabled .counts, s .pre .1 .operations-few), c .before .before .before .before .before .before .before .before .before .before .before .before .loop .inv .long, search needs)
+put-row-requires c κs = let s = c .before .before .before .before .before .before .before .before .before .before .before .before .before .before .before .before .before .before .before .before .before .before .before .before .before .before in (omega (arith, c .before .before .before .before .before .before .before .before .before .before .before .before .loop-test .taken, s .pre .0 (s .args .bytes .now) .tabled .counts, s .pre .1 .operations-few), c .before .before .before .before .before .before .before .before .before .before .before .before .before .loop .inv .long, search needs)
 
 add-o : tie.Need-add-o Inv-loop μ-loop
 add-o c =
-    let s = c .before .before .before .before .before .before .before .before .before .before .before .before .before .before .before .before .before .before .before .before .before .before .before .before .before .before in
-    let few : c .before .before .before .before .before .before .before .before .before .before .before .before .before .before .loop .o < 128 = omega (arith, c .before .before .before .before .before .before .before .before .before .before .before .before .before .loop-test .taken, s .pre .0 (s .args .bytes .now) .tabled .counts, s .pre .1 .operations-few) in
+    let s = c .before .before .before .before .before .before .before .before .before .before .before .before .before .before .before .before .before .before .before .before .before .before .before .before .before .before .before .before in
+    let few : c .before .before .before .before .before .before .before .before .before .before .before .before .before .before .before .loop .o < 128 = omega (arith, c .before .before .before .before .before .before .before .before .before .before .before .before .before .before .loop-test .taken, s .pre .0 (s .args .bytes .now) .tabled .counts, s .pre .1 .operations-few) in
     search needs
 
 loop-less : tie.Need-loop-less Inv-loop μ-loop
-loop-less c = omega (arith, c .before .before .before .before .before .before .before .before .before .before .before .before .before .loop-test .taken)
+loop-less c = omega (arith, c .before .before .before .before .before .before .before .before .before .before .before .before .before .before .loop-test .taken)
 
 loop-again : tie.Need-loop-again Inv-loop μ-loop
-loop-again c = let s = c .before .before .before .before .before .before .before .before .before .before .before .before .before .before .before .before .before .before .before .before .before .before .before .before .before .before in filled-more (c .before .before .before .before .before .before .before .before .before .before .before .before .before .before .loop .inv) (c .before .before .before .before .before .before .before .before .before .before .before .before .before .loop-test .taken) (omega (arith, s .pre .0 (s .args .bytes .now) .tabled .counts, s .pre .1 .operations-few)) (c .before .before .before .before .row-of .result) (c .before .before .before .before .row-of .ensures _ (c .before .before .before .before .before .before .before .before .before .before .before .before .before .before .before .before .before .access-words .ensures .1)) (c .before .put-row .ensures)
+loop-again c = let s = c .before .before .before .before .before .before .before .before .before .before .before .before .before .before .before .before .before .before .before .before .before .before .before .before .before .before .before .before in filled-more (c .before .before .before .before .before .before .before .before .before .before .before .before .before .before .before .loop .inv) (c .before .before .before .before .before .before .before .before .before .before .before .before .before .before .loop-test .taken) (omega (arith, s .pre .0 (s .args .bytes .now) .tabled .counts, s .pre .1 .operations-few)) (c .before .before .before .before .row-of .result) (c .before .before .before .before .row-of .ensures _ (c .before .before .before .before .before .before .before .before .before .before .before .before .before .before .before .before .before .before .before .access-words .ensures .1)) (c .before .put-row .ensures)
 
 known-data-requires : tie.Need-known-data-requires Inv-loop μ-loop
 known-data-requires c κs = search needs
@@ -68,7 +68,7 @@ known-bytes-requires : tie.Need-known-bytes-requires Inv-loop μ-loop
 known-bytes-requires c κs = search needs
 
 returns : tie.Need-returns Inv-loop μ-loop
-returns c = let s = c .before .before .before .before .before .before .before .before .before .before .before .before .before .before .before in filled (c .before .before .before .loop .inv) (c .before .before .loop-test .left) (s .pre .0 _) (s .pre .0 _ .tabled .counts) (c .before .known-data .ensures) (c .known-bytes .ensures)
+returns c = let s = c .before .before .before .before .before .before .before .before .before .before .before .before .before .before .before .before in filled (c .before .before .before .loop .inv) (c .before .before .loop-test .left) (s .pre .0 _) (s .pre .0 _ .tabled .counts) (c .before .known-data .ensures) (c .known-bytes .ensures)
 
 pub rows-of-spec : {M : Type 1} → statement M
 rows-of-spec =

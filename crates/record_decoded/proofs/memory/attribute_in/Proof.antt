@@ -2,12 +2,12 @@
 use Prim.Native.Nat.{ℕ, _/_}
 use mathlib.Core.Path.{ap, _∙_}
 use lib.ListN.{getD}
-use Rattle.model.specs.Execution.{noLine}
-use Rattle.record_decoded.specs.Decoded.{linesOf}
-use Rattle.relation_marks.proofs.MarkLaws.{attribute-there, attribute-past}
+use Rattle.model.specs.Execution.{WC}
+use Rattle.record_decoded.specs.Decoded.{attributesOf}
+use Rattle.record_decoded.proofs.Attributes.{attribute-there, attribute-past}
 use borrow.Author.Needs.{needs}
-use Rattle.relation_marks.proofs.memory.attribute_in.Statement.{statement}
-use Rattle.relation_marks.proofs.memory.attribute_in.Tie as tie
+use Rattle.record_decoded.proofs.memory.attribute_in.Statement.{statement}
+use Rattle.record_decoded.proofs.memory.attribute_in.Tie as tie
 
 wide-requires : tie.Need-wide-requires
 wide-requires c κs = search needs
@@ -22,12 +22,12 @@ returns : tie.Need-returns
 returns c =
     let a = c .before .before .before .before .before .args in
     let line = ap (λ (k : ℕ). k / 8) (c .before .before .before .before .wide .ensures .0) in
-    λ part. c .attribute-of .ensures ∙ attribute-there part (a .lines) _ (c .before .if1 .taken) ∙ ap (λ (k : ℕ). getD (linesOf part (a .lines)) k noLine .attribute) line
+    c .attribute-of .ensures ∙ attribute-there (a .lines) _ (c .before .if1 .taken) ∙ ap (λ (k : ℕ). getD (attributesOf (a .lines)) k WC) line
 
 returns-2 : tie.Need-returns-2
 returns-2 c =
     let a = c .before .before .before .before .args in
-    λ part. attribute-past part (a .lines) _ (c .if1 .left) ∙ ap (λ (k : ℕ). getD (linesOf part (a .lines)) k noLine .attribute) (ap (λ (k : ℕ). k / 8) (c .before .before .before .wide .ensures .0))
+    attribute-past (a .lines) _ (c .if1 .left) ∙ ap (λ (k : ℕ). getD (attributesOf (a .lines)) k WC) (ap (λ (k : ℕ). k / 8) (c .before .before .before .wide .ensures .0))
 
 pub attribute-in-spec : {M : Type 1} → statement M
 attribute-in-spec =

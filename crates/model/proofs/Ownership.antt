@@ -5,12 +5,13 @@ use mathlib.Core.Path.{_≡_, refl, sym, ap, _∙_, subst}
 use mathlib.Core.Bool.{true}
 use mathlib.Core.List.{List, _∷_, List·Memᴰ, List·Memᴰ·head, List·Memᴰ·tail, Memᴰ·map, Memᴰ·of-map}
 use lib.ListN.{length}
-use Rattle.base.proofs.Lists.{of-keep, in-for, in-below, of-below, place-of}
-use Rattle.model.specs.Execution.{isLoad, isStore, Instruction, Execution, Role, R, LV, F, RV, roles, numberOf, Operation, operationsOf, allOperations, loads, stores, everyProcessor}
+use Rattle.base.proofs.Bools.{and-parts}
+use Rattle.base.proofs.Lists.{in-keep, of-keep, in-for, in-below, of-below, place-of}
+use Rattle.model.specs.Execution.{isLoad, isStore, isSemaphore, Instruction, Execution, Role, R, LV, F, RV, roles, numberOf, Operation, operationsOf, allOperations, loads, stores, semaphores, everyProcessor}
 use Rattle.model.specs.Rules.{remoteOf}
 use Rattle.model.specs.Accepted.{Consecutive, Each, Accepted}
 use Rattle.model.proofs.Numbers.{role-number, before-remotes}
 use Rattle.model.proofs.Roles.{LV-role, RV-role, R-role}
 
 module _ {A : Type 0} where
   -- what holds of each element holds of this one
@@ -72,6 +73,19 @@ module _ (e : Execution) where
   pub is-load : {l : Instruction} → List·Memᴰ l (loads e) → List·Memᴰ l (e .instructions) × (isLoad (l .kind) ≡ true)
   unfolding loads
   is-load m = of-keep (λ i. isLoad (i .kind)) (e .instructions) m
+
+  -- a semaphore is an instruction, a load and a store
+  pub is-semaphore : {s : Instruction} → List·Memᴰ s (semaphores e) → List·Memᴰ s (e .instructions) × (isSemaphore (s .kind) ≡ true)
+  unfolding semaphores
+  is-semaphore m = of-keep (λ i. isSemaphore (i .kind)) (e .instructions) m
+
+  pub semaphore-load : {s : Instruction} → List·Memᴰ s (semaphores e) → List·Memᴰ s (loads e)
+  unfolding loads
+  semaphore-load {s} m = let (i, k) = is-semaphore m in in-keep (λ i. isLoad (i .kind)) i (and-parts (isLoad (s .kind)) (isStore (s .kind)) k .0)
+
+  pub semaphore-store : {s : Instruction} → List·Memᴰ s (semaphores e) → List·Memᴰ s (stores e)
+  unfolding stores
+  semaphore-store {s} m = let (i, k) = is-semaphore m in in-keep (λ i. isStore (i .kind)) i (and-parts (isLoad (s .kind)) (isStore (s .kind)) k .1)
 
   -- operations by instruction and role
   operation-in : {i : Instruction} {r : Role} → List·Memᴰ i (e .instructions) → List·Memᴰ r (roles (e .processors) (i .kind)) → List·Memᴰ (operationOf i r) (allOperations e)

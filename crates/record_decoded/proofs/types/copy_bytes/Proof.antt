@@ -1,4 +1,4 @@
--- The loop pastes the first j of the eight bytes; after eight turns, all of them.
+-- The loop pastes the first j of the bytes; after n turns, all of them.
 use Prim.Native.Nat.{ℕ, _+_, _-_, _≤_}
 use native.Mathlib.Omega.{arith}
 use mathlib.Core.Path.{subst}
@@ -6,14 +6,14 @@ use lib.ListN.{drop, length-drop, set}
 use lib.Seq.{getD-drop}
 use borrow.Author.Needs.{needs}
 use Rattle.base.proofs.Copies.{Pasted, none-yet, one-more, copied}
-use Rattle.record_decoded.proofs.types.copy_eight.Statement.{statement}
-use Rattle.record_decoded.proofs.types.copy_eight.Tie as tie
+use Rattle.record_decoded.proofs.types.copy_bytes.Statement.{statement}
+use Rattle.record_decoded.proofs.types.copy_bytes.Tie as tie
 
 abbrev Inv-loop : tie.InvT-loop
-Inv-loop to₀ at from start j₀ to j = (j ≤ 8) × Pasted to₀ at (drop start from) j to
+Inv-loop to₀ at from start n j₀ to j = (j ≤ n) × Pasted to₀ at (drop start from) j to
 
 abbrev μ-loop : tie.MeasureT-loop
-μ-loop to₀ at from start j₀ to j = 8 - j
+μ-loop to₀ at from start n j₀ to j = n - j
 
 loop-holds : tie.Need-loop-holds Inv-loop μ-loop
 loop-holds c = (omega arith, none-yet)
@@ -50,10 +50,10 @@ same-length : tie.Need-same-length Inv-loop μ-loop
 same-length c = c .before .loop .inv .1 .long
 
 returns : tie.Need-returns Inv-loop μ-loop
-returns c = copied (c .before .loop .inv .1) 8 (c .loop-test .left) (c .before .loop .inv .0)
+returns c = copied (c .before .loop .inv .1) (c .before .before .args .n) (c .loop-test .left) (c .before .loop .inv .0)
 
-pub copy-eight-spec : {M : Type 1} → statement M
-copy-eight-spec =
+pub copy-bytes-spec : {M : Type 1} → statement M
+copy-bytes-spec =
     tie.close
     (tie.spec
     Inv-loop
