@@ -1,11 +1,11 @@
 //! Random records, orders and positions: well-formed ones, and damaged ones for every question.
 
 use crate::random::Random;
-use crate::reference::notation::{access, uc};
+use crate::reference::notation::{access, semaphore, uc};
 use crate::reference::record::{
     is_dependence, Attribute, Execution, Instruction, Kind, Line, Role, DOMAINS, INSTRUCTION_ITEM,
     LINE_ITEM, LINE_SIZE, MAX_INSTRUCTIONS, MAX_LINES, MAX_OPERATIONS, MAX_PAIRS, MAX_PROCESSORS,
-    QUESTIONS,
+    QUESTIONS, SEMAPHORE_MORE,
 };
 use crate::reference::rules::{byte_read, links, lowest_broken, Settled};
 
@@ -52,11 +52,50 @@ pub const ATTRIBUTES: [u8; 6] = [0, 1, 2, 17, 33, 49];
 /// One execution in so many has no instruction.
 const EMPTY_ONE_IN: usize = 10;
 
-/// A well-formed execution within the shape. Both allowed and forbidden ones are frequent; some have no instruction.
+/// One execution in so many may have semaphores.
+const SEMAPHORES_ONE_IN: usize = 3;
+
+/// A well-formed execution within the shape. Both allowed and forbidden ones are frequent; some have semaphores, some have no
+/// instruction.
 pub fn execution(random: &mut Random, shape: &Shape) -> Execution {
+    match random.once_in(SEMAPHORES_ONE_IN) {
+        true => with_semaphores(random, shape),
+        false => without_semaphores(random, shape),
+    }
+}
+
+/// An execution of kinds 0 to 4, on lines of every attribute.
+pub fn without_semaphores(random: &mut Random, shape: &Shape) -> Execution {
+    let (attributes, fewest) = attributes(random);
+    let lines = lines(random, &attributes, fewest, shape.lines);
+    generated(random, shape, lines, &PLAIN_KINDS, (1, 9))
+}
+
+/// An execution of all kinds. Most of its lines are WB, where semaphores may lie, the first always. As with locks, there are often
+/// only two values.
+pub fn with_semaphores(random: &mut Random, shape: &Shape) -> Execution {
+    let mut attributes = vec![Attribute::WriteBack; random.pick(&[6, 30])];
+    attributes.extend(Attribute::all());
+    let mut lines = lines(random, &attributes, 1, shape.lines);
+    lines[0].attribute = Attribute::WriteBack;
+    let values = random.pick(&[(0, 1), (1, 9)]);
+    generated(random, shape, lines, &ALL_KINDS, values)
+}
+
+/// An execution on these lines, of kinds that are picked from these; stores write values from the lowest to the highest.
+fn generated(
+    random: &mut Random,
+    shape: &Shape,
+    lines: Vec<Line>,
+    kinds: &[Kind],
+    values: (usize, usize),
+) -> Execution {
     let processors = random.between(1, shape.processors);
-    let lines = lines(random, shape.lines);
-    let instructions = instructions(random, shape, processors, lines.len());
+    let pick = |random: &mut Random| {
+        let kind = random.pick(kinds);
+        instruction(random, kind, &lines, values)
+    };
+    let instructions = instructions(random, shape, processors, pick);
     let mut execution = Execution::new(processors, lines, instructions, Vec::new());
     execution.pairs = pairs(random, &execution);
     give_values(random, &mut execution);
@@ -64,14 +103,13 @@ pub fn execution(random: &mut Random, shape: &Shape) -> Execution {
 }
 
 /// The smaller of two numbers of lines, so that more accesses share one.
-fn lines(random: &mut Random, most: usize) -> Vec<Line> {
-    let (attributes, fewest) = attributes(random);
+fn lines(random: &mut Random, attributes: &[Attribute], fewest: usize, most: usize) -> Vec<Line> {
     let count = random
         .between(fewest, most)
         .min(random.between(fewest, most));
     let values = random.between(1, 3);
     let line = |_| Line {
-        attribute: random.pick(&attributes),
+        attribute: random.pick(attributes),
         initial: std::array::from_fn(|_| random.below(values) as u8),
     };
     (0..count).map(line).collect()
@@ -90,12 +128,45 @@ fn attributes(random: &mut Random) -> (Vec<Attribute>, usize) {
     }
 }
 
+/// How often each kind is picked where there are no semaphores.
+const PLAIN_KINDS: [Kind; 11] = [
+    Kind::Load,
+    Kind::Load,
+    Kind::Load,
+    Kind::LoadAcquire,
+    Kind::LoadAcquire,
+    Kind::Store,
+    Kind::Store,
+    Kind::Store,
+    Kind::StoreRelease,
+    Kind::StoreRelease,
+    Kind::Fence,
+];
+
+/// How often each kind is picked where there are.
+const ALL_KINDS: [Kind; 14] = [
+    Kind::Load,
+    Kind::Load,
+    Kind::LoadAcquire,
+    Kind::Store,
+    Kind::Store,
+    Kind::StoreRelease,
+    Kind::StoreRelease,
+    Kind::Fence,
+    Kind::SemaphoreAcquire,
+    Kind::SemaphoreAcquire,
+    Kind::SemaphoreAcquire,
+    Kind::SemaphoreRelease,
+    Kind::SemaphoreRelease,
+    Kind::SemaphoreRelease,
+];
+
 /// No instruction, or instructions as long as their operations fit, in the order of their processors.
 fn instructions(
     random: &mut Random,
     shape: &Shape,
     processors: usize,
-    lines: usize,
+    pick: impl Fn(&mut Random) -> Instruction,
 ) -> Vec<Instruction> {
     if random.once_in(EMPTY_ONE_IN) {
         return Vec::new();
@@ -105,15 +176,15 @@ fn instructions(
     let mut room = shape.operations;
     let mut chosen = Vec::new();
     for _ in 0..wanted {
-        let instruction = instruction(random, processors, lines);
-        let operations = if instruction.kind.is_store() {
-            1 + processors
-        } else {
-            1
-        };
+        let processor = random.below(processors);
+        let instruction = pick(random);
+        let operations = instruction.kind.roles(processors).len();
         if operations <= room {
             room -= operations;
-            chosen.push(instruction);
+            chosen.push(Instruction {
+                processor,
+                ..instruction
+            });
         }
     }
     chosen.sort_by_key(|instruction| instruction.processor);
@@ -121,37 +192,30 @@ fn instructions(
 }
 
 /// One instruction; most accesses begin at the start of a line, so that many overlap.
-fn instruction(random: &mut Random, processors: usize, lines: usize) -> Instruction {
-    use Kind::{Fence, Load, LoadAcquire, Store, StoreRelease};
-    let kind = random.pick(&[
-        Load,
-        Load,
-        Load,
-        LoadAcquire,
-        LoadAcquire,
-        Store,
-        Store,
-        Store,
-        StoreRelease,
-        StoreRelease,
-        Fence,
-    ]);
-    let processor = random.below(processors);
-    if kind == Fence {
-        let fence = access(kind, 0, &[]);
-        return Instruction { processor, ..fence };
+fn instruction(
+    random: &mut Random,
+    kind: Kind,
+    lines: &[Line],
+    (lowest, highest): (usize, usize),
+) -> Instruction {
+    if kind == Kind::Fence {
+        return access(kind, 0, &[]);
     }
+    let may_lie =
+        |line: &usize| !kind.is_semaphore() || lines[*line].attribute == Attribute::WriteBack;
+    let places: Vec<usize> = (0..lines.len()).filter(may_lie).collect();
     let size = random.pick(&[1, 1, 2, 4, 8]);
     let slot = if random.once_in(3) {
         random.below(LINE_SIZE / size)
     } else {
         0
     };
-    let address = random.below(lines) * LINE_SIZE + slot * size;
-    let data: Vec<u8> = (0..size).map(|_| random.between(1, 9) as u8).collect();
-    Instruction {
-        processor,
-        ..access(kind, address as u8, &data)
+    let address = (random.pick(&places) * LINE_SIZE + slot * size) as u8;
+    let byte = |_| random.between(lowest, highest) as u8;
+    let data: Vec<u8> = (0..size).map(byte).collect();
+    match kind.is_semaphore() {
+        true => semaphore(kind, address, &data, &data),
+        false => access(kind, address, &data),
     }
 }
 
@@ -196,17 +260,18 @@ pub fn give_shown(random: &mut Random, execution: &mut Execution) {
 /// The load saw one overlapping store, or none, over the initial bytes; rarely something else.
 fn guess_value(random: &mut Random, execution: &mut Execution, load: usize) {
     let mut sources: Vec<Option<usize>> = vec![None];
-    let overlapping = execution.stores().filter(|&w| execution.overlap(w, load));
+    let others = execution.stores().filter(|&w| w != load);
+    let overlapping = others.filter(|&w| execution.overlap(w, load));
     sources.extend(overlapping.map(Some));
     let source = random.pick(&sources).map(|w| execution.instructions[w]);
     let mut seen = execution.instructions[load];
     for address in seen.addresses() {
         let byte = match source {
-            Some(store) if store.covers(address) => store.byte_at(address),
+            Some(store) if store.covers(address) => store.byte_written(address),
             _ if random.once_in(20) => random.byte(),
             _ => execution.initial(address),
         };
-        seen.data[address - usize::from(seen.address)] = byte;
+        seen.seen[address - usize::from(seen.address)] = byte;
     }
     execution.instructions[load] = seen;
 }
@@ -245,7 +310,7 @@ fn give_seen(execution: &mut Execution, prefix: &[u8]) {
     let settled = Settled::by(prefix);
     let mut seen = execution.instructions[operation.instruction];
     for (at, address) in seen.addresses().enumerate() {
-        seen.data[at] = byte_read(execution, &settled, operation.instruction, address);
+        seen.seen[at] = byte_read(execution, &settled, operation.instruction, address);
     }
     execution.instructions[operation.instruction] = seen;
 }
@@ -263,7 +328,7 @@ pub fn order(random: &mut Random, count: usize) -> Vec<u8> {
     order
 }
 
-/// All operations in a random order that keeps every link: rules 1 to 8 and 13 hold.
+/// All operations in a random order that keeps every link: rules 1 to 8, 13 and 15 hold.
 pub fn linked_order(random: &mut Random, execution: &Execution) -> Vec<u8> {
     let count = execution.operation_count();
     let mut successors = vec![Vec::new(); count];
@@ -330,7 +395,8 @@ pub fn failing(random: &mut Random, question: u8) -> Vec<u8> {
             6..=9 => fail_instruction(random, &execution, question),
             11 => Some(fail_operation_count(random, execution)),
             12..=14 => fail_pairs(random, execution, question),
-            _ => Some(lengthened(random, &execution)),
+            15 => Some(lengthened(random, &execution)),
+            _ => fail_attribute(random, execution),
         };
         if let Some(bytes) = failing {
             return bytes;
@@ -357,9 +423,9 @@ fn layout(execution: &Execution) -> Layout {
         counts.push((at, instructions.len()));
         at += 1;
         let program = execution.instructions.iter();
-        for _ in program.filter(|i| i.processor == processor) {
+        for instruction in program.filter(|i| i.processor == processor) {
             instructions.push(at);
-            at += INSTRUCTION_ITEM;
+            at += item_length(instruction.kind);
         }
     }
     Layout {
@@ -367,6 +433,14 @@ fn layout(execution: &Execution) -> Layout {
         counts,
         instructions,
         pair_count: at,
+    }
+}
+
+/// Record bytes of an instruction.
+fn item_length(kind: Kind) -> usize {
+    match kind.is_semaphore() {
+        true => INSTRUCTION_ITEM + SEMAPHORE_MORE,
+        false => INSTRUCTION_ITEM,
     }
 }
 
@@ -419,26 +493,59 @@ fn fail_instruction(random: &mut Random, execution: &Execution, question: u8) ->
     let mut bytes = execution.to_bytes();
     let at = layout(execution).instructions[number];
     match question {
-        6 => bytes[at] = byte_with(random, |kind| kind > 4),
+        6 => bytes[at] = byte_with(random, |kind| kind > 6),
         7 => bytes[at + 2] = byte_with(random, |size| !good_size(size)),
         8 => bytes[at + 1] = byte_with(random, |address| !good_address(address)),
         _ if size == 8 => return None,
         _ => {
+            // Of a semaphore, what it saw or what it wrote.
+            let values = if kind.is_semaphore() { 2 } else { 1 };
+            let value = at + 3 + 8 * random.below(values);
             let spare = random.between(usize::from(size), 7);
-            bytes[at + 3 + spare] = byte_with(random, |byte| byte > 0);
+            bytes[value + spare] = byte_with(random, |byte| byte > 0);
         }
     }
     Some(bytes)
 }
 
+/// Question 26: an access becomes a semaphore and its line is not WB; none if there is no access. Question 9 comes after it, so
+/// the bytes past the size may be any.
+fn fail_attribute(random: &mut Random, mut execution: Execution) -> Option<Vec<u8>> {
+    let mut accesses: Vec<usize> = (0..execution.instructions.len()).collect();
+    accesses.retain(|&i| execution.instructions[i].kind != Kind::Fence);
+    if accesses.is_empty() {
+        return None;
+    }
+    let access = &mut execution.instructions[random.pick(&accesses)];
+    access.kind = random.pick(&[Kind::SemaphoreAcquire, Kind::SemaphoreRelease]);
+    if random.once_in(2) {
+        access.seen = std::array::from_fn(|_| random.byte());
+        access.written = std::array::from_fn(|_| random.byte());
+    }
+    let mut attributes = Attribute::all();
+    attributes.retain(|&attribute| attribute != Attribute::WriteBack);
+    execution.lines[access.line()].attribute = random.pick(&attributes);
+    Some(execution.to_bytes())
+}
+
 /// Question 11: over 128 operations, on the lines of the execution. What follows is any bytes.
 fn fail_operation_count(random: &mut Random, execution: Execution) -> Vec<u8> {
-    // With fewer than three processors 40 stores stay below the limit.
-    let processors = random.between(3, MAX_PROCESSORS);
-    let stores = MAX_OPERATIONS / (1 + processors) + 1;
-    let store = |_| Instruction {
-        processor: random.below(processors),
-        ..access(Kind::Store, 0, &[1])
+    let write_back = execution.lines[0].attribute == Attribute::WriteBack;
+    let semaphores = write_back && random.once_in(2);
+    let (kind, fewest) = match semaphores {
+        // With fewer processors 40 of them stay below the limit.
+        true => (Kind::SemaphoreAcquire, 2),
+        false => (Kind::Store, 3),
+    };
+    let processors = random.between(fewest, MAX_PROCESSORS);
+    let stores = MAX_OPERATIONS / kind.roles(processors).len() + 1;
+    let store = |_| {
+        let processor = random.below(processors);
+        let store = match semaphores {
+            true => semaphore(kind, 0, &[0], &[1]),
+            false => access(kind, 0, &[1]),
+        };
+        Instruction { processor, ..store }
     };
     let mut stores: Vec<_> = (0..stores).map(store).collect();
     stores.sort_by_key(|store| store.processor);

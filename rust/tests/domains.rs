@@ -55,7 +55,7 @@ fn generated_records_have_both() {
     for shape in Shape::ALL {
         let (mut one, mut two) = (0, 0);
         let mut bytes = BTreeSet::new();
-        for _ in 0..1000 {
+        for _ in 0..1500 {
             let e = execution(&mut random, &shape);
             bytes.extend(e.lines.iter().map(|line| line.attribute.byte()));
             let mut all = two_uncacheable(&e);

@@ -44,7 +44,12 @@ fn relabelled(e: &Execution, label: impl Fn(usize, u8) -> u8) -> Execution {
     let mut other = with_initial(e, |address| label(address, e.initial(address)));
     for access in &mut other.instructions {
         for (at, address) in access.addresses().enumerate() {
-            access.data[at] = label(address, access.data[at]);
+            if access.kind.is_load() {
+                access.seen[at] = label(address, access.seen[at]);
+            }
+            if access.kind.is_store() {
+                access.written[at] = label(address, access.written[at]);
+            }
         }
     }
     other
@@ -72,10 +77,10 @@ fn mask(random: &mut Random) -> u8 {
     random.between(1, 255) as u8
 }
 
-/// Makes some loads longer. At its new bytes a load saw the initial byte or that of a store.
+/// Makes some loads longer, but no semaphore. At its new bytes a load saw the initial byte or that of a store.
 fn lengthen(random: &mut Random, e: &mut Execution) {
     let mut loads: Vec<usize> = e.loads().collect();
-    loads.retain(|_| random.once_in(3));
+    loads.retain(|&load| !e.instructions[load].kind.is_semaphore() && random.once_in(3));
     for load in loads {
         let short = e.instructions[load];
         let size = random.pick(&[2, 4, 8]).max(short.size);
@@ -87,10 +92,10 @@ fn lengthen(random: &mut Random, e: &mut Execution) {
         for (at, address) in long.addresses().enumerate() {
             let stores = e.stores().map(|store| e.instructions[store]);
             let stores: Vec<Instruction> = stores.filter(|w| w.covers(address)).collect();
-            long.data[at] = match short.covers(address) {
-                true => short.byte_at(address),
+            long.seen[at] = match short.covers(address) {
+                true => short.byte_seen(address),
                 false if stores.is_empty() || random.once_in(2) => e.initial(address),
-                false => random.pick(&stores).byte_at(address),
+                false => random.pick(&stores).byte_written(address),
             };
         }
         e.instructions[load] = long;
@@ -129,7 +134,7 @@ fn generated(random: &mut Random, shape: &Shape) -> Execution {
             true => address ^ (1 << random.below(3)),
             false => random.below(e.lines.len() * LINE_SIZE),
         };
-        e.instructions[load].data[at] = e.initial(other);
+        e.instructions[load].seen[at] = e.initial(other);
     }
     e
 }
@@ -212,7 +217,7 @@ fn stored_and_initial_bytes() {
         tally.count(&answers);
         if answers.answer() == SearchAnswer::Allowed {
             let initial = |i: &Instruction| {
-                let same = |&b: &usize| i.byte_at(b) == e.initial(b);
+                let same = |&b: &usize| i.byte_seen(b) == e.initial(b);
                 i.addresses().filter(same).count()
             };
             let both = |i: &Instruction| (1..usize::from(i.size)).contains(&initial(i));
@@ -613,7 +618,7 @@ fn a_load_over_an_own_store_and_every_initial_byte() {
             let store = store(&mut random, 0, to, &written);
             let seen: Vec<u8> = (from..from + size)
                 .map(|b| match store.covers(b) {
-                    true => store.byte_at(b),
+                    true => store.byte_written(b),
                     false => bytes[b],
                 })
                 .collect();

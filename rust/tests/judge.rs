@@ -11,16 +11,16 @@ use oglindesh::reference::search::SearchAnswer;
 /// How often each answer was given.
 struct Tally {
     legal: usize,
-    broken: [usize; 15],
-    refused: [usize; 18],
+    broken: [usize; 17],
+    refused: [usize; 27],
 }
 
 impl Tally {
     fn new() -> Tally {
         Tally {
             legal: 0,
-            broken: [0; 15],
-            refused: [0; 18],
+            broken: [0; 17],
+            refused: [0; 27],
         }
     }
 
@@ -73,7 +73,7 @@ fn judges_agree_near_legal_orders() {
         tally.ask(&damaged(&mut random, &execution), &refused);
     }
     assert!(tally.legal > 0);
-    for rule in 1..=14 {
+    for rule in 1..=16 {
         assert!(tally.broken[rule] > 0, "no order broke rule {rule} first");
     }
     for question in 16..=17 {

@@ -1,4 +1,5 @@
-//! The questions 1 to 22 but 10, which is not asked, by hand: boundary values, and which of two comes first.
+//! The questions 1 to 22 but 10, which is not asked, by hand: boundary values, and which of two comes first. Those of a semaphore
+//! are in tests/semaphores.rs.
 
 use oglindesh::beside;
 use oglindesh::generate::ATTRIBUTES;
@@ -97,7 +98,9 @@ fn attributes() {
 
 #[test]
 fn instructions() {
-    assert_eq!(answer(&[(21, 5)]), 6);
+    for kind in 7..=u8::MAX {
+        assert_eq!(answer(&[(21, kind)]), 6);
+    }
     for size in [0, 3, 5, 6, 7, 16, 255] {
         assert_eq!(answer(&[(23, size)]), 7);
     }
@@ -158,17 +161,17 @@ fn order_of_pairs() {
 
 #[test]
 fn first_no_decides() {
-    assert_eq!(answer(&[(21, 5), (23, 3)]), 6);
+    assert_eq!(answer(&[(21, 7), (23, 3)]), 6);
     assert_eq!(answer(&[(22, 99), (23, 3)]), 7);
     assert_eq!(answer(&[(22, 99), (25, 1)]), 8);
-    assert_eq!(answer(&[(25, 1), (32, 5)]), 9);
+    assert_eq!(answer(&[(25, 1), (32, 7)]), 9);
     assert_eq!(answer(&[(2, 3), (20, 41)]), 4);
     // A count is asked about before the bytes behind it, and these before their content.
     assert_eq!(read(&[9]), Err(2));
     assert_eq!(read(&[1, 9]), Err(3));
     assert_eq!(read(&[1, 1, 3]), Err(1));
     assert_eq!(read(&[&RECORD[..20], &[41]].concat()), Err(5));
-    assert_eq!(read(&[&RECORD[..20], &[40, 5]].concat()), Err(1));
+    assert_eq!(read(&[&RECORD[..20], &[40, 7]].concat()), Err(1));
 }
 
 #[test]

@@ -1,8 +1,8 @@
-//! The rules 1 to 14 by hand: for each an order and a prefix that break it first.
+//! The rules 1 to 16 by hand: for each an order and a prefix that break it first. Semaphores are in tests/semaphores.rs.
 
 use oglindesh::beside::judge;
 use oglindesh::reference::notation::{self, acq, ld, mf, programs, rel, st, uc, Draft, X, Y};
-use oglindesh::reference::record::{Attribute, Instruction, Kind, DOMAINS};
+use oglindesh::reference::record::{Attribute, Instruction, Kind, Role, DOMAINS};
 use oglindesh::reference::rules::{lowest_broken, JudgeAnswer};
 
 fn judged(draft: &Draft, order: &[u8]) -> JudgeAnswer {
@@ -195,13 +195,15 @@ fn no_bypass() {
     }
 }
 
-/// Document 01's table of the program-order rules, earlier kind by row.
-const PROGRAM_ORDER: [[&str; 5]; 5] = [
-    ["", "", "", "L", "F"],
-    ["A", "A", "A", "AL", "AF"],
-    ["", "", "", "L", "F"],
-    ["", "", "", "L", "F"],
-    ["F", "F", "F", "F", "F"],
+/// Document 01's table of the program-order rules, earlier kind by row; behind its five kinds document 02's semaphores.
+const PROGRAM_ORDER: [[&str; 7]; 7] = [
+    ["", "", "", "L", "F", "", "L"],
+    ["A", "A", "A", "AL", "AF", "A", "AL"],
+    ["", "", "", "L", "F", "", "L"],
+    ["", "", "", "L", "F", "", "L"],
+    ["F", "F", "F", "F", "F", "F", "F"],
+    ["A", "A", "A", "AL", "AF", "A", "AL"],
+    ["", "", "", "L", "F", "", "L"],
 ];
 
 /// The rule of the first letter, if there is one.
@@ -217,6 +219,9 @@ fn program_order_rule(earlier: Kind, later: Kind) -> Option<u8> {
 fn instruction(kind: Kind, address: u8) -> Instruction {
     match kind {
         Kind::Fence => mf(),
+        Kind::SemaphoreAcquire | Kind::SemaphoreRelease => {
+            notation::semaphore(kind, address, &[0], &[0])
+        }
         _ => notation::access(kind, address, &[0]),
     }
 }
@@ -235,29 +240,39 @@ fn pairs_of_attributes() -> Vec<[Attribute; 2]> {
     pairs.collect()
 }
 
-/// An order of two instructions in one program: the later one's first operation, then all others as they are numbered.
-fn later_first(draft: &Draft) -> Vec<u8> {
+/// An order of two instructions in one program: the later one's R, LV or F, of a semaphore R and LV; then all others as they are
+/// numbered. And how many of it come first.
+fn later_first(draft: &Draft) -> (Vec<u8>, usize) {
     let e = draft.clone().build();
-    let first = e.operations_of(1).start as u8;
-    let others = (0..e.operation_count() as u8).filter(|&other| other != first);
-    std::iter::once(first).chain(others).collect()
+    let of_later = e.operations_of(1);
+    let first = of_later.filter(|&at| !matches!(e.operations[at].role, Role::Remote(_)));
+    let mut order: Vec<u8> = first.map(|at| at as u8).collect();
+    let count = order.len();
+    let others = (0..e.operation_count() as u8).filter(|other| !order[..count].contains(other));
+    order.extend(others.collect::<Vec<u8>>());
+    (order, count)
 }
 
-/// Two instructions of each pair of kinds, the later one's operation put first: the lowest rule
+/// Two instructions of each pair of kinds, the later one's operations put first: the lowest rule
 /// broken is that of the first letter, if there is one.
 #[test]
 fn program_order_table() {
     for (earlier, later) in pairs_of_kinds() {
         let draft = programs(&[&[instruction(earlier, X), instruction(later, Y)]]);
         let expected = program_order_rule(earlier, later);
-        assert_eq!(broken_by(&draft, &later_first(&draft)[..1]), expected);
+        let (order, first) = later_first(&draft);
+        assert_eq!(broken_by(&draft, &order[..first]), expected);
+        let judgement = expected.map_or(JudgeAnswer::Legal, JudgeAnswer::Breaks);
+        assert_eq!(judged(&draft, &order), judgement);
     }
 }
 
 /// Two accesses in the same way on every two attributes: where there is no letter, rule 13 is broken if both are UC in one domain.
+/// Semaphores lie on WB.
 #[test]
 fn uncacheable_order_in_domains() {
-    let accesses = |&(a, b): &(Kind, Kind)| a != Kind::Fence && b != Kind::Fence;
+    let anywhere = |kind: Kind| kind != Kind::Fence && !kind.is_semaphore();
+    let accesses = |&(a, b): &(Kind, Kind)| anywhere(a) && anywhere(b);
     for (earlier, later) in pairs_of_kinds().filter(accesses) {
         for [first, second] in pairs_of_attributes() {
             let draft = programs(&[&[instruction(earlier, X), instruction(later, Y)]]);
@@ -265,9 +280,9 @@ fn uncacheable_order_in_domains() {
             let one_domain = first.is_uncacheable() && first == second;
             let rule = program_order_rule(earlier, later).or(one_domain.then_some(13));
             let expected = rule.map_or(JudgeAnswer::Legal, JudgeAnswer::Breaks);
-            let order = later_first(&draft);
+            let (order, first) = later_first(&draft);
             assert_eq!(judged(&draft, &order), expected, "{draft:?}");
-            assert_eq!(broken_by(&draft, &order[..1]), rule);
+            assert_eq!(broken_by(&draft, &order[..first]), rule);
         }
     }
 }

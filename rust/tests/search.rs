@@ -15,7 +15,7 @@ struct Tally {
     allowed: usize,
     forbidden: usize,
     unfinished: usize,
-    refused: [usize; 22],
+    refused: [usize; 27],
 }
 
 impl Tally {

@@ -77,7 +77,7 @@ fn case(execution: &Execution) -> Case {
     let mut forbidden = execution.clone();
     let mut loads = forbidden.instructions.iter_mut().rev();
     let last = loads.find(|i| i.kind.is_load()).expect("there is a load");
-    last.data[0] = 9;
+    last.seen[0] = 9;
     let record = execution.to_bytes();
     let mut order = vec![0; execution.operation_count()];
     let reply = search(&record, &mut order, 0, u32::MAX);

@@ -2,7 +2,7 @@
 //! state is reached once, with the number of prefixes that lead to it.
 //!
 //! A state is the set of operations that stand, and what their order still decides: which store each load would see, and which
-//! of two overlapping stores came first. Written from document 01's sentences, apart from `rules` and `fast`.
+//! of two overlapping stores came first. Written from the sentences of documents 01 and 02, apart from `rules` and `fast`.
 
 use super::record::{Attribute, Execution, Kind, Operation, Role};
 use std::collections::HashMap;
@@ -136,19 +136,24 @@ impl<'a> Model<'a> {
         }
         match role {
             Role::Read => self.sees_its_value(state, instruction),
-            Role::Remote(q) => self.keeps_coherence(state, instruction, q),
+            Role::Remote(q) => {
+                self.keeps_coherence(state, instruction, q)
+                    && !self.parts_a_semaphore(state, instruction, q)
+            }
             Role::Local | Role::Fence => true,
         }
     }
 
-    /// Whether rules 1 to 9 and 13 demand a before b. Rule 9's 'if' holds wherever rule 7 does.
+    /// Whether rules 1 to 9, 13 and 15 demand a before b. Rule 9's 'if' holds wherever rule 7 does.
     fn requires(&self, a: usize, b: usize) -> bool {
         let e = self.e;
+        let (first, second) = (a, b);
         let (a, b) = (e.operations[a], e.operations[b]);
         let (i, j) = (a.instruction, b.instruction);
         let own = e.instructions[i].processor;
         if i == j {
             return match (a.role, b.role) {
+                (Role::Read, Role::Local) => true,
                 (Role::Local, Role::Remote(q)) => q == own,
                 (Role::Remote(p), Role::Remote(q)) => p == own && q != own,
                 _ => false,
@@ -158,32 +163,35 @@ impl<'a> Model<'a> {
             return false;
         }
         let kinds = [i, j].map(|k| e.instructions[k].kind);
-        let acquire = kinds[0] == Kind::LoadAcquire;
-        let release = kinds[1] == Kind::StoreRelease
-            && (kinds[0].is_load() || kinds[0].is_store() && a.role == b.role);
+        let acquire = kinds[0].acquires() && a.role == Role::Read;
+        let release = kinds[1].releases() && (a.role == Role::Read || a.role == b.role);
         let fence = kinds.contains(&Kind::Fence);
         if acquire || release || fence {
             return true;
         }
         let overlap = e.overlap(i, j);
-        let one_stores = kinds.iter().any(|kind| kind.is_store());
         let flow = e.pairs.contains(&(i as u8, j as u8));
         let attributes = [i, j].map(|k| e.attribute(k));
         // The attribute of a UC line has its domain in it.
         let one_domain = attributes[0].is_uncacheable() && attributes[0] == attributes[1];
-        let read_or_local = |role| matches!(role, Role::Read | Role::Local);
-        if read_or_local(a.role) && read_or_local(b.role) {
-            return overlap && one_stores || flow || one_domain;
+        // R of a semaphore and LV of a store that is none are the first of their instruction.
+        let both_first = first == e.operations_of(i).start && second == e.operations_of(j).start;
+        if both_first && (flow || one_domain) {
+            return true;
         }
-        let both_own = [a.role, b.role] == [Role::Remote(own); 2];
-        both_own && overlap && attributes[0] != Attribute::WriteCoalescing
+        match (a.role, b.role) {
+            (Role::Local, Role::Read | Role::Local) | (Role::Read, Role::Local) => overlap,
+            (Role::Remote(p), Role::Remote(q)) if p == own && q == own => {
+                overlap && attributes[0] != Attribute::WriteCoalescing
+            }
+            _ => false,
+        }
     }
 
-    /// Rule 12: some st.rel to WB has part of its RV standing, and this is none of the others.
+    /// Rule 12: some st.rel to WB or sem.rel has part of its RV standing, and this is none of the others.
     fn parts_a_release(&self, state: &State, operation: usize) -> bool {
         let to_write_back = |&w: &usize| {
-            self.e.instructions[w].kind == Kind::StoreRelease
-                && self.e.attribute(w) == Attribute::WriteBack
+            self.e.instructions[w].kind.releases() && self.e.attribute(w) == Attribute::WriteBack
         };
         let parted = |w: usize| {
             let remote = || (0..self.e.processors).map(|q| self.e.remote(w, q));
@@ -192,6 +200,18 @@ impl<'a> Model<'a> {
                 && self.e.operations[operation].instruction != w
         };
         self.e.stores().filter(to_write_back).any(parted)
+    }
+
+    /// Rule 16 for a store whose RV_q comes next: an overlapping semaphore by q has its R standing, and not its RV_q.
+    fn parts_a_semaphore(&self, state: &State, store: usize, q: usize) -> bool {
+        let e = self.e;
+        let mut others = e.semaphores().filter(|&other| other != store);
+        others.any(|other| {
+            e.instructions[other].processor == q
+                && e.overlap(other, store)
+                && state.stands(e.read(other))
+                && !state.stands(e.remote(other, q))
+        })
     }
 
     /// Rule 10: every processor sees first the store that any has seen first.
@@ -217,7 +237,7 @@ impl<'a> Model<'a> {
         let p = read.processor;
         let waiting = |&w: &usize| {
             e.instructions[w].processor == p
-                && state.stands(e.read_or_local(w))
+                && state.stands(e.local(w))
                 && !state.stands(e.remote(w, p))
         };
         let bypass: Vec<usize> = e.stores().filter(waiting).collect();
@@ -235,9 +255,9 @@ impl<'a> Model<'a> {
             };
             let seen = match source {
                 NONE => e.initial(b),
-                store => e.instructions[usize::from(store)].byte_at(b),
+                store => e.instructions[usize::from(store)].byte_written(b),
             };
-            seen == read.byte_at(b)
+            seen == read.byte_seen(b)
         })
     }
 }

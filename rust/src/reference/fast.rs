@@ -81,6 +81,24 @@ const PROGRAM_ORDER: [[u8; 5]; 5] = [
     [F, F, F, F, F],
 ];
 
+/// The row of an earlier kind. Document 02's P3: a semaphore takes that of ld.acq or of st.rel.
+fn table_row(kind: Kind) -> usize {
+    match kind {
+        Kind::SemaphoreAcquire => Kind::LoadAcquire as usize,
+        Kind::SemaphoreRelease => Kind::StoreRelease as usize,
+        _ => kind as usize,
+    }
+}
+
+/// The column of a later kind. A semaphore takes that of st or of st.rel.
+fn table_column(kind: Kind) -> usize {
+    match kind {
+        Kind::SemaphoreAcquire => Kind::Store as usize,
+        Kind::SemaphoreRelease => Kind::StoreRelease as usize,
+        _ => kind as usize,
+    }
+}
+
 /// What standing in the prefix does.
 #[derive(Clone, Copy, PartialEq, Eq)]
 enum Effect {
@@ -94,16 +112,20 @@ enum Effect {
 #[derive(Clone, Copy)]
 struct Step {
     effect: Effect,
-    /// For RV of a st.rel to WB: all RV of that store.
+    /// For RV of a st.rel to WB or of a sem.rel: all RV of that store.
     release: u128,
     /// The processor whose view it reads or changes, and the line there.
     processor: usize,
     line: usize,
-    /// The bits of the access within the line, and the data there.
+    /// The bits of the access within the line, and the data there: seen for R, written for LV and RV.
     mask: u64,
     data: u64,
     /// For LV and RV: the store's number.
     store: usize,
+    /// For R of a semaphore: it alone, by its number.
+    semaphore: u64,
+    /// For RV_p: the other semaphores by p that overlap it.
+    atomic: u64,
     /// For RV: it is RV_own, the store's first.
     own: bool,
     /// For RV: the other stores that coherence orders with this one.
@@ -164,14 +186,20 @@ fn step_of(e: &Execution, operation: usize) -> Step {
     let number = e.operations[operation].instruction;
     let instruction = &e.instructions[number];
     let own = instruction.processor;
+    let data = match e.operations[operation].role {
+        Role::Read => instruction.seen,
+        Role::Local | Role::Remote(_) | Role::Fence => instruction.written,
+    };
     let mut step = Step {
         effect: Effect::Nothing,
         release: 0,
         processor: own,
         line: instruction.line(),
         mask: line_mask(instruction),
-        data: u64::from_le_bytes(instruction.data) << line_shift(instruction),
+        data: u64::from_le_bytes(data) << line_shift(instruction),
         store: number,
+        semaphore: 0,
+        atomic: 0,
         own: false,
         coherent: 0,
         bypass: 0,
@@ -186,12 +214,19 @@ fn step_of(e: &Execution, operation: usize) -> Step {
             if e.attribute(number).is_uncacheable() {
                 step.no_bypass = step.bypass;
             }
+            if instruction.kind.is_semaphore() {
+                step.semaphore = 1 << number;
+            }
         }
         Role::Remote(q) => {
             step.effect = Effect::Remote;
             step.processor = q;
             step.own = q == own;
             step.release = atomic_release(e, number);
+            step.atomic = overlapping_stores(e, number, |w| {
+                let other = &e.instructions[w];
+                w != number && other.kind.is_semaphore() && other.processor == q
+            });
             if e.attribute(number) != Attribute::WriteCoalescing {
                 step.coherent = overlapping_stores(e, number, |w| w != number);
             }
@@ -206,10 +241,10 @@ fn overlapping_stores(e: &Execution, access: usize, wanted: impl Fn(usize) -> bo
         .fold(0, |set, w| set | 1 << w)
 }
 
-/// All RV of a st.rel to WB, which stand together; none for other stores.
+/// All RV of a st.rel to WB or of a sem.rel, which stand together; none for other stores.
 fn atomic_release(e: &Execution, store: usize) -> u128 {
-    let atomic = e.instructions[store].kind == Kind::StoreRelease
-        && e.attribute(store) == Attribute::WriteBack;
+    let atomic =
+        e.instructions[store].kind.releases() && e.attribute(store) == Attribute::WriteBack;
     if !atomic {
         return 0;
     }
@@ -217,16 +252,21 @@ fn atomic_release(e: &Execution, store: usize) -> u128 {
 }
 
 /// By operation: what the rules put before it in every consistent prefix. These are the links of
-/// rules 1 to 8 and 13, and rule 9, whose 'if' always holds where rules 1 and 7 do: RV_own(W2)
+/// rules 1 to 8, 13 and 15, and rule 9, whose 'if' always holds where rules 1 and 7 do: RV_own(W2)
 /// stands after LV(W2), and that after LV(W1) for W1 earlier in the program.
 fn predecessors(e: &Execution) -> [u128; MAX_OPERATIONS] {
     let mut before = [0; MAX_OPERATIONS];
     let mut require = |a: usize, b: usize| before[b] |= 1 << a;
     for store in e.stores() {
-        let own = e.remote_own(store);
-        require(e.read_or_local(store), own);
-        for remote in e.operations_of(store).skip(1).filter(|&rv| rv != own) {
-            require(own, remote);
+        let (local, own) = (e.local(store), e.remote_own(store));
+        require(local, own);
+        for other in e.operations_of(store) {
+            if other < local {
+                require(other, local);
+            }
+            if other > local && other != own {
+                require(own, other);
+            }
         }
     }
     for later in 0..e.instructions.len() {
@@ -246,21 +286,25 @@ fn require_program_order(
     require: &mut impl FnMut(usize, usize),
 ) {
     let kinds = [earlier, later].map(|i| e.instructions[i].kind);
-    let marks = PROGRAM_ORDER[kinds[0] as usize][kinds[1] as usize];
-    let like_with_like = kinds[0].is_store() && marks & F == 0;
+    let marks = PROGRAM_ORDER[table_row(kinds[0])][table_column(kinds[1])];
     if marks == 0 {
         return;
     }
-    for (at, a) in e.operations_of(earlier).enumerate() {
-        for (other, b) in e.operations_of(later).enumerate() {
-            if !like_with_like || at == other {
+    for a in e.operations_of(earlier) {
+        for b in e.operations_of(later) {
+            let roles = [a, b].map(|at| e.operations[at].role);
+            let from_read = roles[0] == Role::Read;
+            let fence = marks & F != 0;
+            let acquire = marks & A != 0 && from_read;
+            let release = marks & L != 0 && (from_read || roles[0] == roles[1]);
+            if fence || acquire || release {
                 require(a, b);
             }
         }
     }
 }
 
-/// Rules 5 to 9 and 13, on 'R or LV' of two accesses.
+/// Rules 5 to 9 and 13: the data and the flow between two accesses, and their order on UC.
 fn require_access_order(
     e: &Execution,
     earlier: usize,
@@ -271,17 +315,27 @@ fn require_access_order(
     if kinds.contains(&Kind::Fence) {
         return;
     }
-    let stores = kinds.map(Kind::is_store);
-    let data = stores != [false, false] && e.overlap(earlier, later);
     let flow = e.pairs.contains(&(earlier as u8, later as u8));
     let domains = [earlier, later].map(|i| e.attribute(i).domain());
     let one_domain = domains[0].is_some() && domains[0] == domains[1];
-    if data || flow || one_domain {
+    if flow || one_domain {
         require(e.read_or_local(earlier), e.read_or_local(later));
     }
-    let coherent = e.attribute(later) != Attribute::WriteCoalescing;
-    if data && coherent && stores == [true, true] {
-        require(e.remote_own(earlier), e.remote_own(later));
+    if !e.overlap(earlier, later) {
+        return;
+    }
+    let (loads, stores) = (kinds.map(Kind::is_load), kinds.map(Kind::is_store));
+    if stores[0] && loads[1] {
+        require(e.local(earlier), e.read(later));
+    }
+    if loads[0] && stores[1] {
+        require(e.read(earlier), e.local(later));
+    }
+    if stores == [true, true] {
+        require(e.local(earlier), e.local(later));
+        if e.attribute(later) != Attribute::WriteCoalescing {
+            require(e.remote_own(earlier), e.remote_own(later));
+        }
     }
 }
 
@@ -292,12 +346,14 @@ struct State<'a> {
     length: usize,
     /// The operations that stand.
     standing: u128,
-    /// The RV still missing of a st.rel to WB that has begun: one of them comes next (rule 12).
+    /// The RV still missing of a st.rel to WB or a sem.rel that has begun: one of them comes next (rule 12).
     open: u128,
     /// Stores whose LV stands, whose RV_own stands, and by processor whose RV_p stands.
     local: u64,
     started: u64,
     remote: [u64; MAX_PROCESSORS],
+    /// Semaphores whose R stands.
+    read: u64,
     /// By started store: the stores that coherence puts before it (rule 10).
     earlier: [u64; MAX_INSTRUCTIONS],
     /// By processor and line: the latest byte of its own LV, and of the RV at it, else initial.
@@ -318,6 +374,7 @@ impl<'a> State<'a> {
             local: 0,
             started: 0,
             remote: [0; MAX_PROCESSORS],
+            read: 0,
             earlier: [0; MAX_INSTRUCTIONS],
             written: [[0; MAX_LINES]; MAX_PROCESSORS],
             visible: [tables.initial; MAX_PROCESSORS],
@@ -375,7 +432,11 @@ impl<'a> State<'a> {
         match step.effect {
             Effect::Nothing | Effect::Local => true,
             Effect::Read => self.read_fits(step),
-            Effect::Remote => self.coherence_before(step) & !self.remote[step.processor] == 0,
+            Effect::Remote => {
+                // Rule 16: RV_own of a semaphore whose R stands comes first.
+                let between = step.atomic & self.read & !self.started;
+                between == 0 && self.coherence_before(step) & !self.remote[step.processor] == 0
+            }
         }
     }
 
@@ -413,7 +474,8 @@ impl<'a> State<'a> {
         self.standing |= 1 << operation;
         self.open = step.release & !self.standing;
         match step.effect {
-            Effect::Nothing | Effect::Read => {}
+            Effect::Nothing => {}
+            Effect::Read => self.read |= step.semaphore,
             Effect::Local => {
                 let word = &mut self.written[step.processor][step.line];
                 self.replaced[self.length] = *word;
@@ -448,7 +510,8 @@ impl<'a> State<'a> {
             0
         };
         match step.effect {
-            Effect::Nothing | Effect::Read => {}
+            Effect::Nothing => {}
+            Effect::Read => self.read &= !step.semaphore,
             Effect::Local => {
                 self.written[step.processor][step.line] = self.replaced[self.length];
                 self.local &= !(1 << step.store);

@@ -41,16 +41,39 @@ pub fn mf() -> Instruction {
     access(Kind::Fence, 0, &[])
 }
 
-/// An instruction of any kind; its size is the number of data bytes, lowest address first.
+/// sem.acq of one byte: the byte it saw, and the one it wrote.
+pub fn sem_acq(address: u8, seen: u8, written: u8) -> Instruction {
+    semaphore(Kind::SemaphoreAcquire, address, &[seen], &[written])
+}
+
+/// sem.rel of one byte: the byte it saw, and the one it wrote.
+pub fn sem_rel(address: u8, seen: u8, written: u8) -> Instruction {
+    semaphore(Kind::SemaphoreRelease, address, &[seen], &[written])
+}
+
+/// A load, a store or an mf; its size is the number of data bytes, lowest address first.
 pub fn access(kind: Kind, address: u8, bytes: &[u8]) -> Instruction {
-    let mut data = [0; 8];
-    data[..bytes.len()].copy_from_slice(bytes);
+    match kind.is_load() {
+        true => instruction(kind, address, bytes, &[]),
+        false => instruction(kind, address, &[], bytes),
+    }
+}
+
+/// A semaphore; its size is the number of bytes that it saw, and of those that it wrote.
+pub fn semaphore(kind: Kind, address: u8, seen: &[u8], written: &[u8]) -> Instruction {
+    assert_eq!(seen.len(), written.len());
+    instruction(kind, address, seen, written)
+}
+
+fn instruction(kind: Kind, address: u8, seen: &[u8], written: &[u8]) -> Instruction {
+    let eight = |bytes: &[u8]| std::array::from_fn(|at| bytes.get(at).copied().unwrap_or(0));
     Instruction {
         processor: 0,
         kind,
         address,
-        size: bytes.len() as u8,
-        data,
+        size: seen.len().max(written.len()) as u8,
+        seen: eight(seen),
+        written: eight(written),
     }
 }
 

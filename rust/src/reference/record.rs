@@ -3,8 +3,8 @@
 use std::ops::Range;
 
 /// The questions that are asked of a record. Question 10 asked for an instruction: since document 02's P2 a record needs none,
-/// and the number is unused.
-pub const QUESTIONS: [u8; 14] = [1, 2, 3, 4, 5, 6, 7, 8, 9, 11, 12, 13, 14, 15];
+/// and the number is unused. Question 26, of a semaphore, comes after 8 (P3).
+pub const QUESTIONS: [u8; 15] = [1, 2, 3, 4, 5, 6, 7, 8, 9, 11, 12, 13, 14, 15, 26];
 
 /// Most processors of a record (question 2).
 pub const MAX_PROCESSORS: usize = 8;
@@ -26,6 +26,8 @@ pub const LINE_SIZE: usize = 8;
 pub const LINE_ITEM: usize = 9;
 /// Record bytes of an instruction: kind, address, size, data.
 pub const INSTRUCTION_ITEM: usize = 11;
+/// Record bytes that a semaphore has behind these: what it wrote.
+pub const SEMAPHORE_MORE: usize = 8;
 /// Record bytes of a dependence pair.
 pub const PAIR_ITEM: usize = 2;
 
@@ -37,16 +39,20 @@ pub enum Kind {
     Store = 2,
     StoreRelease = 3,
     Fence = 4,
+    SemaphoreAcquire = 5,
+    SemaphoreRelease = 6,
 }
 
 impl Kind {
-    /// All five kinds, by their number.
-    pub const ALL: [Kind; 5] = [
+    /// All seven kinds, by their number.
+    pub const ALL: [Kind; 7] = [
         Kind::Load,
         Kind::LoadAcquire,
         Kind::Store,
         Kind::StoreRelease,
         Kind::Fence,
+        Kind::SemaphoreAcquire,
+        Kind::SemaphoreRelease,
     ];
 
     /// The kind of a record's kind byte (question 6).
@@ -54,14 +60,45 @@ impl Kind {
         Kind::ALL.get(usize::from(byte)).copied()
     }
 
-    /// ld or ld.acq.
-    pub fn is_load(self) -> bool {
-        matches!(self, Kind::Load | Kind::LoadAcquire)
+    /// A semaphore of either kind: a load and a store in rules 1 to 12.
+    pub fn is_semaphore(self) -> bool {
+        matches!(self, Kind::SemaphoreAcquire | Kind::SemaphoreRelease)
     }
 
-    /// st or st.rel.
+    /// ld, ld.acq or a semaphore.
+    pub fn is_load(self) -> bool {
+        self.is_semaphore() || matches!(self, Kind::Load | Kind::LoadAcquire)
+    }
+
+    /// st, st.rel or a semaphore.
     pub fn is_store(self) -> bool {
-        matches!(self, Kind::Store | Kind::StoreRelease)
+        self.is_semaphore() || matches!(self, Kind::Store | Kind::StoreRelease)
+    }
+
+    /// ld.acq or sem.acq, which rule 2 is about.
+    pub fn acquires(self) -> bool {
+        matches!(self, Kind::LoadAcquire | Kind::SemaphoreAcquire)
+    }
+
+    /// st.rel or sem.rel, which rules 3 and 12 are about.
+    pub fn releases(self) -> bool {
+        matches!(self, Kind::StoreRelease | Kind::SemaphoreRelease)
+    }
+
+    /// The operations that an instruction of this kind gives, in their order.
+    pub fn roles(self, processors: usize) -> Vec<Role> {
+        let mut roles = Vec::new();
+        if self == Kind::Fence {
+            roles.push(Role::Fence);
+        }
+        if self.is_load() {
+            roles.push(Role::Read);
+        }
+        if self.is_store() {
+            roles.push(Role::Local);
+            roles.extend((0..processors).map(Role::Remote));
+        }
+        roles
     }
 }
 
@@ -139,8 +176,10 @@ pub struct Instruction {
     pub kind: Kind,
     pub address: u8,
     pub size: u8,
-    /// What a load saw or a store wrote, lowest address first.
-    pub data: [u8; 8],
+    /// What a load saw, lowest address first; else zeros.
+    pub seen: [u8; 8],
+    /// What a store wrote, lowest address first; else zeros.
+    pub written: [u8; 8],
 }
 
 impl Instruction {
@@ -150,9 +189,23 @@ impl Instruction {
         (first..first + usize::from(self.size)).contains(&address)
     }
 
-    /// The data byte for an address that the access covers.
-    pub fn byte_at(&self, address: usize) -> u8 {
-        self.data[address - usize::from(self.address)]
+    /// The byte that a load saw at an address that it covers.
+    pub fn byte_seen(&self, address: usize) -> u8 {
+        self.seen[address - usize::from(self.address)]
+    }
+
+    /// The byte that a store wrote at an address that it covers.
+    pub fn byte_written(&self, address: usize) -> u8 {
+        self.written[address - usize::from(self.address)]
+    }
+
+    /// The data bytes of the record: what a load saw, what a store wrote, of a semaphore the one behind the other.
+    fn data(&self) -> Vec<u8> {
+        match self.kind {
+            kind if kind.is_semaphore() => [self.seen, self.written].concat(),
+            kind if kind.is_load() => self.seen.to_vec(),
+            _ => self.written.to_vec(),
+        }
     }
 
     /// The addresses that the access covers.
@@ -170,11 +223,11 @@ impl Instruction {
 /// What an operation is to its instruction.
 #[derive(Clone, Copy, PartialEq, Eq, Debug)]
 pub enum Role {
-    /// R of a load.
+    /// R of a load or a semaphore.
     Read,
-    /// LV of a store.
+    /// LV of a store or a semaphore.
     Local,
-    /// RV_q of a store.
+    /// RV_q of a store or a semaphore.
     Remote(usize),
     /// F of an mf.
     Fence,
@@ -215,7 +268,7 @@ impl Execution {
         let mut first = Vec::new();
         for (number, instruction) in instructions.iter().enumerate() {
             first.push(operations.len());
-            for role in roles(instruction.kind, processors) {
+            for role in instruction.kind.roles(processors) {
                 operations.push(Operation {
                     instruction: number,
                     role,
@@ -243,14 +296,24 @@ impl Execution {
         self.first[instruction]..end.unwrap_or(self.operations.len())
     }
 
-    /// 'R or LV' of an access: R of a load, LV of a store. Either is its first operation.
+    /// 'R or LV' of an access: R of a load or a semaphore, LV of another store. Each is its first operation.
     pub fn read_or_local(&self, access: usize) -> usize {
         self.first[access]
     }
 
+    /// R of a load.
+    pub fn read(&self, load: usize) -> usize {
+        self.first[load]
+    }
+
+    /// LV of a store. A semaphore's stands behind its R.
+    pub fn local(&self, store: usize) -> usize {
+        self.first[store] + usize::from(self.instructions[store].kind.is_load())
+    }
+
     /// RV_q of a store.
     pub fn remote(&self, store: usize, q: usize) -> usize {
-        self.first[store] + 1 + q
+        self.local(store) + 1 + q
     }
 
     /// RV_own of a store.
@@ -258,14 +321,19 @@ impl Execution {
         self.remote(store, self.instructions[store].processor)
     }
 
-    /// The numbers of all loads.
+    /// The numbers of all loads, semaphores among them.
     pub fn loads(&self) -> impl Iterator<Item = usize> + '_ {
         (0..self.instructions.len()).filter(|&i| self.instructions[i].kind.is_load())
     }
 
-    /// The numbers of all stores.
+    /// The numbers of all stores, semaphores among them.
     pub fn stores(&self) -> impl Iterator<Item = usize> + '_ {
         (0..self.instructions.len()).filter(|&i| self.instructions[i].kind.is_store())
+    }
+
+    /// The numbers of all semaphores.
+    pub fn semaphores(&self) -> impl Iterator<Item = usize> + '_ {
+        (0..self.instructions.len()).filter(|&i| self.instructions[i].kind.is_semaphore())
     }
 
     /// Whether the two instructions stand in one program.
@@ -308,7 +376,7 @@ impl Execution {
                     instruction.address,
                     instruction.size,
                 ]);
-                bytes.extend(instruction.data);
+                bytes.extend(instruction.data());
             }
         }
         bytes.push(self.pairs.len() as u8);
@@ -321,18 +389,6 @@ impl Execution {
     }
 }
 
-/// The operations that an instruction of this kind gives, in their order.
-fn roles(kind: Kind, processors: usize) -> Vec<Role> {
-    match kind {
-        Kind::Load | Kind::LoadAcquire => vec![Role::Read],
-        Kind::Store | Kind::StoreRelease => {
-            let remote = (0..processors).map(Role::Remote);
-            std::iter::once(Role::Local).chain(remote).collect()
-        }
-        Kind::Fence => vec![Role::Fence],
-    }
-}
-
 /// Reads a record, or gives the number of the first question answered 'no'.
 pub fn read(bytes: &[u8]) -> Result<Execution, u8> {
     let mut walk = Walk { rest: bytes };
@@ -340,7 +396,7 @@ pub fn read(bytes: &[u8]) -> Result<Execution, u8> {
     let lines = read_lines(&mut walk)?;
     let mut instructions = Vec::new();
     for processor in 0..processors {
-        read_program(&mut walk, processor, lines.len(), &mut instructions)?;
+        read_program(&mut walk, processor, &lines, &mut instructions)?;
     }
     let mut execution = Execution::new(processors, lines, instructions, Vec::new());
     ask(11, execution.operation_count() <= MAX_OPERATIONS)?;
@@ -401,39 +457,56 @@ fn read_lines(walk: &mut Walk) -> Result<Vec<Line>, u8> {
 fn read_program(
     walk: &mut Walk,
     processor: usize,
-    lines: usize,
+    lines: &[Line],
     instructions: &mut Vec<Instruction>,
 ) -> Result<(), u8> {
     let count = walk.count()?;
     ask(5, instructions.len() + count <= MAX_INSTRUCTIONS)?;
     for _ in 0..count {
-        let item = walk.item(INSTRUCTION_ITEM)?;
-        instructions.push(read_instruction(item, processor, lines)?);
+        instructions.push(read_instruction(walk, processor, lines)?);
     }
     Ok(())
 }
 
-/// Questions 6 to 9 of one instruction.
-fn read_instruction(item: &[u8], processor: usize, lines: usize) -> Result<Instruction, u8> {
+/// One instruction: question 1 of its first eleven bytes, 6 and 7; for a semaphore question 1 of the other eight; 8, 26 and 9.
+fn read_instruction(walk: &mut Walk, processor: usize, lines: &[Line]) -> Result<Instruction, u8> {
+    let item = walk.item(INSTRUCTION_ITEM)?;
     let kind = Kind::of(item[0]).ok_or(6)?;
     let (address, size) = (item[1], item[2]);
-    let data: [u8; 8] = item[3..].try_into().expect("eight data bytes");
-    if kind == Kind::Fence {
-        ask(7, size == 0)?;
-        ask(8, address == 0)?;
-    } else {
-        ask(7, [1, 2, 4, 8].contains(&size))?;
-        let end = usize::from(address) + usize::from(size);
-        ask(8, address.is_multiple_of(size) && end <= lines * LINE_SIZE)?;
-    }
-    ask(9, data[usize::from(size)..].iter().all(|&byte| byte == 0))?;
-    Ok(Instruction {
+    let data = eight(&item[3..]);
+    let fence = kind == Kind::Fence;
+    let sizes: &[u8] = if fence { &[0] } else { &[1, 2, 4, 8] };
+    ask(7, sizes.contains(&size))?;
+    let (seen, written) = match kind {
+        kind if kind.is_semaphore() => (data, eight(walk.item(SEMAPHORE_MORE)?)),
+        kind if kind.is_load() => (data, [0; 8]),
+        _ => ([0; 8], data),
+    };
+    let instruction = Instruction {
         processor,
         kind,
         address,
         size,
-        data,
-    })
+        seen,
+        written,
+    };
+    if fence {
+        ask(8, address == 0)?;
+    } else {
+        let within = instruction.addresses().end <= lines.len() * LINE_SIZE;
+        ask(8, address.is_multiple_of(size) && within)?;
+    }
+    if kind.is_semaphore() {
+        let attribute = lines[instruction.line()].attribute;
+        ask(26, attribute == Attribute::WriteBack)?;
+    }
+    let spare = [seen, written].map(|bytes| bytes[usize::from(size)..].to_vec());
+    ask(9, spare.concat().iter().all(|&byte| byte == 0))?;
+    Ok(instruction)
+}
+
+fn eight(bytes: &[u8]) -> [u8; 8] {
+    bytes.try_into().expect("eight data bytes")
 }
 
 fn read_pairs(walk: &mut Walk, execution: &mut Execution) -> Result<(), u8> {
@@ -450,7 +523,7 @@ fn read_pairs(walk: &mut Walk, execution: &mut Execution) -> Result<(), u8> {
     Ok(())
 }
 
-/// Question 13: first below second, both in one program, neither an mf, not both stores.
+/// Question 13: first below second, both in one program, neither an mf, not both stores; a semaphore is none here.
 pub(crate) fn is_dependence(execution: &Execution, pair: (u8, u8)) -> bool {
     let (first, second) = (usize::from(pair.0), usize::from(pair.1));
     if first >= second || second >= execution.instructions.len() {
@@ -459,5 +532,7 @@ pub(crate) fn is_dependence(execution: &Execution, pair: (u8, u8)) -> bool {
     let kinds = [first, second].map(|number| execution.instructions[number].kind);
     execution.same_program(first, second)
         && !kinds.contains(&Kind::Fence)
-        && !kinds.iter().all(|kind| kind.is_store())
+        && !kinds
+            .iter()
+            .all(|kind| kind.is_store() && !kind.is_semaphore())
 }

@@ -1,4 +1,4 @@
-//! The visibility rules 1 to 14, each by document 01's sentence, what a prefix breaks of them, and the judge.
+//! The visibility rules 1 to 16, each by the sentence of document 01 or 02, what a prefix breaks of them, and the judge.
 
 use super::record::{ask, read, Attribute, Execution, Kind, MAX_OPERATIONS};
 
@@ -50,7 +50,7 @@ pub fn lowest_broken(execution: &Execution, prefix: &[u8]) -> Option<u8> {
     RULES.iter().position(broken).map(|at| at as u8 + 1)
 }
 
-/// The links: each 'before' that rules 1 to 8 and 13 require without an 'if'.
+/// The links: each 'before' that rules 1 to 8, 13 and 15 require without an 'if'.
 pub fn links(execution: &Execution) -> Vec<(usize, usize)> {
     let mut all = Vec::new();
     for rule in &RULES {
@@ -72,7 +72,7 @@ enum Rule {
 }
 
 /// Rule k stands at k - 1.
-const RULES: [Rule; 14] = [
+const RULES: [Rule; 16] = [
     Rule::Requires(write_order),
     Rule::Requires(acquire),
     Rule::Requires(release),
@@ -87,6 +87,8 @@ const RULES: [Rule; 14] = [
     Rule::Broken(breaks_release_atomicity),
     Rule::Requires(uncacheable_order),
     Rule::Broken(breaks_no_bypass),
+    Rule::Requires(read_before_write),
+    Rule::Broken(breaks_semaphore_atomicity),
 ];
 
 /// The facts that a prefix settles.
@@ -139,7 +141,7 @@ fn program_order(e: &Execution) -> impl Iterator<Item = (usize, usize)> + '_ {
 fn write_order(e: &Execution, require: &mut Require) {
     for w in e.stores() {
         let own = e.remote_own(w);
-        require(e.read_or_local(w), own);
+        require(e.local(w), own);
         for q in 0..e.processors {
             if e.remote(w, q) != own {
                 require(own, e.remote(w, q));
@@ -148,31 +150,33 @@ fn write_order(e: &Execution, require: &mut Require) {
     }
 }
 
-/// Rule 2, ACQ: an ld.acq's R before every operation of each later instruction of its program.
+/// Rule 2, ACQ: an ld.acq's R before every operation of each later instruction of its program. Since
+/// document 02's P3: an acquiring semaphore's too; its LV and RV hold nothing back.
 fn acquire(e: &Execution, require: &mut Require) {
     for (earlier, later) in program_order(e) {
-        if e.instructions[earlier].kind == Kind::LoadAcquire {
+        if e.instructions[earlier].kind.acquires() {
             for operation in e.operations_of(later) {
-                require(e.read_or_local(earlier), operation);
+                require(e.read(earlier), operation);
             }
         }
     }
 }
 
 /// Rule 3, REL: for an earlier load, its R before every operation of the st.rel. For an earlier
-/// store, LV before LV, and RV_q before RV_q for each q.
+/// store, LV before LV, and RV_q before RV_q for each q. Since document 02's P3: of a releasing
+/// semaphore too, its R among its operations; an earlier semaphore is both a load and a store.
 fn release(e: &Execution, require: &mut Require) {
     for (earlier, later) in program_order(e) {
-        if e.instructions[later].kind != Kind::StoreRelease {
+        if !e.instructions[later].kind.releases() {
             continue;
         }
         if e.instructions[earlier].kind.is_load() {
             for operation in e.operations_of(later) {
-                require(e.read_or_local(earlier), operation);
+                require(e.read(earlier), operation);
             }
         }
         if e.instructions[earlier].kind.is_store() {
-            require(e.read_or_local(earlier), e.read_or_local(later));
+            require(e.local(earlier), e.local(later));
             for q in 0..e.processors {
                 require(e.remote(earlier, q), e.remote(later, q));
             }
@@ -199,12 +203,13 @@ fn fence(e: &Execution, require: &mut Require) {
     }
 }
 
-/// Rule 5, MD:RAW: store, then overlapping load in one program: LV before R.
+/// Rule 5, MD:RAW: store, then overlapping load in one program: LV before R. As in rules 6 and 7 the
+/// two are different instructions, and a semaphore is either.
 fn read_after_write(e: &Execution, require: &mut Require) {
     for (earlier, later) in program_order(e) {
         let kinds = (e.instructions[earlier].kind, e.instructions[later].kind);
         if kinds.0.is_store() && kinds.1.is_load() && e.overlap(earlier, later) {
-            require(e.read_or_local(earlier), e.read_or_local(later));
+            require(e.local(earlier), e.read(later));
         }
     }
 }
@@ -214,7 +219,7 @@ fn write_after_read(e: &Execution, require: &mut Require) {
     for (earlier, later) in program_order(e) {
         let kinds = (e.instructions[earlier].kind, e.instructions[later].kind);
         if kinds.0.is_load() && kinds.1.is_store() && e.overlap(earlier, later) {
-            require(e.read_or_local(earlier), e.read_or_local(later));
+            require(e.read(earlier), e.local(later));
         }
     }
 }
@@ -224,12 +229,13 @@ fn write_after_write(e: &Execution, require: &mut Require) {
     for (earlier, later) in program_order(e) {
         let kinds = (e.instructions[earlier].kind, e.instructions[later].kind);
         if kinds.0.is_store() && kinds.1.is_store() && e.overlap(earlier, later) {
-            require(e.read_or_local(earlier), e.read_or_local(later));
+            require(e.local(earlier), e.local(later));
         }
     }
 }
 
-/// Rule 8, DF: for a given pair, R or LV of the first before R or LV of the second.
+/// Rule 8, DF: for a given pair, R or LV of the first before R or LV of the second; R where it is a
+/// semaphore, as the first and as the second.
 fn data_flow(e: &Execution, require: &mut Require) {
     for &(first, second) in &e.pairs {
         let (first, second) = (usize::from(first), usize::from(second));
@@ -251,8 +257,7 @@ fn breaks_own_coherence(e: &Execution, s: &Settled) -> bool {
     coherent_stores(e)
         .filter(|&(w1, w2)| e.same_program(w1, w2))
         .any(|(w1, w2)| {
-            s.before(e.read_or_local(w1), e.read_or_local(w2))
-                && s.before(e.remote_own(w2), e.remote_own(w1))
+            s.before(e.local(w1), e.local(w2)) && s.before(e.remote_own(w2), e.remote_own(w1))
         })
 }
 
@@ -270,40 +275,41 @@ fn breaks_coherence(e: &Execution, s: &Settled) -> bool {
 fn breaks_read_value(e: &Execution, s: &Settled) -> bool {
     e.loads().any(|load| {
         let instruction = &e.instructions[load];
-        s.stands(e.read_or_local(load))
+        s.stands(e.read(load))
             && instruction
                 .addresses()
-                .any(|b| instruction.byte_at(b) != byte_read(e, s, load, b))
+                .any(|b| instruction.byte_seen(b) != byte_read(e, s, load, b))
     })
 }
 
 /// The byte that rule 11 gives a standing R for address b. R is local for b if some store W
 /// by p to b has LV(W) before R before RV_p(W). If local, b is the byte of p's store to b
 /// whose LV is the latest before R. If not, it is the byte of the store, by anyone, whose
-/// RV_p is the latest before R; with no such store, the initial byte.
+/// RV_p is the latest before R; with no such store, the initial byte. A semaphore's own store
+/// is one of them.
 pub(crate) fn byte_read(e: &Execution, s: &Settled, load: usize, b: usize) -> u8 {
-    let r = e.read_or_local(load);
+    let r = e.read(load);
     let p = e.instructions[load].processor;
     let stores = || e.stores().filter(|&w| e.instructions[w].covers(b));
     let own = || stores().filter(|&w| e.instructions[w].processor == p);
-    let local = own().any(|w| s.before(e.read_or_local(w), r) && s.before(r, e.remote(w, p)));
+    let local = own().any(|w| s.before(e.local(w), r) && s.before(r, e.remote(w, p)));
     let source = if local {
         own()
-            .filter(|&w| s.before(e.read_or_local(w), r))
-            .max_by_key(|&w| s.place[e.read_or_local(w)])
+            .filter(|&w| s.before(e.local(w), r))
+            .max_by_key(|&w| s.place[e.local(w)])
     } else {
         stores()
             .filter(|&w| s.before(e.remote(w, p), r))
             .max_by_key(|&w| s.place[e.remote(w, p)])
     };
-    source.map_or_else(|| e.initial(b), |w| e.instructions[w].byte_at(b))
+    source.map_or_else(|| e.initial(b), |w| e.instructions[w].byte_written(b))
 }
 
-/// Rule 12, WBR: between two RV of one st.rel to WB stand only RV of that st.rel.
+/// Rule 12, WBR: between two RV of one st.rel to WB stand only RV of that st.rel. Since document
+/// 02's P3: of a releasing semaphore too.
 fn breaks_release_atomicity(e: &Execution, s: &Settled) -> bool {
-    let to_write_back = |&w: &usize| {
-        e.instructions[w].kind == Kind::StoreRelease && e.attribute(w) == Attribute::WriteBack
-    };
+    let to_write_back =
+        |&w: &usize| e.instructions[w].kind.releases() && e.attribute(w) == Attribute::WriteBack;
     e.stores().filter(to_write_back).any(|w| {
         let remote = e.remote(w, 0)..e.remote(w, e.processors);
         (0..e.operation_count())
@@ -336,7 +342,26 @@ fn breaks_no_bypass(e: &Execution, s: &Settled) -> bool {
         .any(|w| {
             e.loads()
                 .filter(|&load| e.same_program(w, load) && e.overlap(w, load))
-                .map(|load| e.read_or_local(load))
-                .any(|r| s.before(e.read_or_local(w), r) && s.before(r, e.remote_own(w)))
+                .map(|load| e.read(load))
+                .any(|r| s.before(e.local(w), r) && s.before(r, e.remote_own(w)))
         })
+}
+
+/// Rule 15: R before LV of the same semaphore.
+fn read_before_write(e: &Execution, require: &mut Require) {
+    for semaphore in e.semaphores() {
+        require(e.read(semaphore), e.local(semaphore));
+    }
+}
+
+/// Rule 16: no RV_p of another overlapping store between R and RV_p of a semaphore by p.
+fn breaks_semaphore_atomicity(e: &Execution, s: &Settled) -> bool {
+    e.semaphores().any(|semaphore| {
+        let p = e.instructions[semaphore].processor;
+        let (r, rv) = (e.read(semaphore), e.remote(semaphore, p));
+        e.stores()
+            .filter(|&w| w != semaphore && e.overlap(w, semaphore))
+            .map(|w| e.remote(w, p))
+            .any(|other| s.before(r, other) && s.before(other, rv))
+    })
 }
