@@ -109,6 +109,12 @@ fn record_is_bytes_alone() {
         "nothing on one processor",
     ]);
     assert_eq!(nothing, [1, 1, 0, 0, 0, 0, 0, 0, 0, 0, 0, 0, 0]);
+    let semaphore = printed(&["record", "executions/requests.txt", "a semaphore alone"]);
+    let entry = [5, 0, 1, 0, 0, 0, 0, 0, 0, 0, 0, 1, 0, 0, 0, 0, 0, 0, 0];
+    assert_eq!(
+        semaphore,
+        [&[1, 1], &[0; 9][..], &[1], &entry, &[0]].concat()
+    );
 }
 
 /// The attributes are those of the first claim.

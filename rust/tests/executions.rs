@@ -35,6 +35,12 @@ fn document_02() {
     let names = [
         "nothing on one processor",
         "nothing on eight processors",
+        "a lock that two processors take",
+        "a lock handed over without its data",
+        "a lock released by a semaphore, without its data",
+        "a store visible before the semaphore ahead of it",
+        "two semaphores seen in different orders",
+        "a load between the operations of a semaphore",
         "initial bytes of their own addresses",
         "two device boards",
         "old records",
@@ -47,7 +53,8 @@ fn document_000() {
     run_source("computations", &["computation 1".to_string()]);
 }
 
-/// Table 15 with the number of its prefixes; the first million of them are compared. And the four rules on peripheral domains.
+/// Table 15 with the number of its prefixes; the first million of them are compared. And the four rules on peripheral domains,
+/// those on semaphores, and lemma 1.
 #[test]
 fn the_note() {
     let mut names: Vec<String> = (4..=20).map(|table| format!("table {table}")).collect();
@@ -58,6 +65,15 @@ fn the_note() {
         "two writes",
     ];
     names.extend(accesses.map(|two| format!("{two} in one domain")));
+    let semaphores = [
+        "fetch-and-add that loses one",
+        "read before write",
+        "acquire semantics",
+        "release semantics",
+        "fences and semaphores",
+        "no semaphore is local",
+    ];
+    names.extend(semaphores.map(str::to_string));
     let ran = run_source("note", &names);
     assert!(ran.steps > 1_000_000, "{ran:?}");
 }
@@ -101,7 +117,7 @@ fn said_after(programs: &str, line: &str) -> String {
 }
 
 /// Lines, and how the message about them begins.
-const WRONG_LINES: [(&str, &str); 44] = [
+const WRONG_LINES: [(&str, &str); 51] = [
     ("allowed", "f:1: `allowed` stands before any execution"),
     ("execution", "f:1: the execution has no name"),
     ("execution e", "f:1: the execution has no programs"),
@@ -133,6 +149,34 @@ const WRONG_LINES: [(&str, &str); 44] = [
     (
         "execution e\nprograms ld.rel x sees 0",
         "f:2: `ld.rel` is not an instruction",
+    ),
+    (
+        "execution e\nprograms sem x sees 0 writes 1",
+        "f:2: `sem` is not an instruction: write ld, ld.acq, st, st.rel, sem.acq, sem.rel or mf, ",
+    ),
+    (
+        "execution e\nprograms sem16.acq x sees 0 writes 1",
+        "f:2: `sem16.acq` is not an instruction",
+    ),
+    (
+        "execution e\nprograms sem.acq x=1",
+        "f:2: `=` stands where `sees` is expected",
+    ),
+    (
+        "execution e\nprograms sem.acq x sees 0",
+        "f:2: the line ends too early: write `writes`",
+    ),
+    (
+        "execution e\nprograms sem.rel x sees 0=1",
+        "f:2: `=` stands where `writes` is expected",
+    ),
+    (
+        "execution e\nprograms sem2.rel x sees 0 writes 0x10000",
+        "f:2: 0x10000 does not fit into size 2",
+    ),
+    (
+        "execution e\nprograms sem2.acq x+1 sees 0 writes 1\nallowed",
+        "f:3: the execution fails question 8",
     ),
     (
         "execution e\nprograms ld v sees 0",
@@ -206,7 +250,7 @@ const WRONG_LINES: [(&str, &str); 44] = [
     ),
     (
         "execution e\nprograms none\nrefused 10",
-        "f:3: no record fails question 10: write one of 1, 2, 3, 4, 5, 6, 7, 8, 9, 11, 12, 13, 14, 15",
+        "f:3: no record fails question 10: write one of 1, 2, 3, 4, 5, 6, 7, 8, 9, 11, 12, 13, 14, 15, 26",
     ),
     (
         "execution e\nprograms none\nrefused 16",
@@ -254,8 +298,8 @@ const WRONG_LINES: [(&str, &str); 44] = [
         "f:3: `steps` does not belong here, or stands here twice",
     ),
     (
-        "execution e\nprograms mf\nbreaks 15 order 0",
-        "f:3: 15 is too large: write the number of a rule",
+        "execution e\nprograms mf\nbreaks 17 order 0",
+        "f:3: 17 is too large: write the number of a rule, 1 to 16",
     ),
 ];
 
@@ -388,6 +432,30 @@ const WRONG_CLAIMS: [(&str, &str); 17] = [
         "prefixes by sets: Some(Counted",
     ),
 ];
+
+/// Claims about `sem.acq x sees 0 writes 1` that are not so, and a part of the message about them.
+const WRONG_OF_SEMAPHORES: [(&str, &str); 6] = [
+    (
+        "allowed on WB or UC1",
+        "f:3: e on UC1: check: Err(26), not Ok(()) as claimed",
+    ),
+    ("refused 26", "check: Ok(()), not Err(26)"),
+    ("legal order 1 0 2", "judgement: Breaks(11), not Legal"),
+    (
+        "breaks 15 order LV(0) R(0) RVp(0)",
+        "judgement: Breaks(11), not Breaks(15)",
+    ),
+    ("operations 2", "number of operations: Ok(3), not Ok(2)"),
+    (
+        "order RVq(0)",
+        "f:3: the instruction has no operation RVq: a load has R, a store LV and an RV for each of the 1 processors (p, q, ..), a semaphore R and these, an mf F",
+    ),
+];
+
+#[test]
+fn wrong_claims_of_semaphores_are_told() {
+    assert_told("sem.acq x sees 0 writes 1", &WRONG_OF_SEMAPHORES);
+}
 
 /// What is said of each of these claims about the programs has the part that stands beside it.
 fn assert_told(programs: &str, claims: &[(&str, &str)]) {
@@ -546,6 +614,41 @@ execution all of it   # and one here
     assert_eq!(bytes, expected.concat());
     let ran = run_all("f", &executions).unwrap_or_else(|wrong| panic!("{wrong}"));
     assert_eq!(ran.executions, 6 * 2 + 1 + 1);
+}
+
+/// Semaphores of every size, with both values; their operations by role.
+#[test]
+fn semaphores_may_be_written() {
+    let text = "
+execution semaphores
+  initially x=2
+  programs  A: sem.acq x sees 2 writes 255, sem2.rel y+2 sees 0 writes 0x0102;
+            sem4.rel y+4 sees 0 writes z, B: sem8.acq z sees 0 writes 0x0102030405060708
+  allowed
+  order     R(A) -> LV(A) -> RVp(A) -> RVq(A) -> R(1) -> LV(1) -> RVp(1) -> RVq(1) ->
+            R(2) -> LV(2) -> RVq(2) -> RVp(2) -> R(B) -> LV(B) -> RVq(B) -> RVp(B)
+  legal
+";
+    let executions = read("f", text).unwrap_or_else(|wrong| panic!("{wrong}"));
+    let bytes = executions[0].execution.to_bytes();
+    let expected = [
+        &[2, 3][..],
+        &[0, 2, 0, 0, 0, 0, 0, 0, 0],
+        &[0; 18],
+        &[2],
+        &[5, 0, 1, 2, 0, 0, 0, 0, 0, 0, 0],
+        &[255, 0, 0, 0, 0, 0, 0, 0],
+        &[6, 10, 2, 0, 0, 0, 0, 0, 0, 0, 0],
+        &[2, 1, 0, 0, 0, 0, 0, 0],
+        &[2],
+        &[6, 12, 4, 0, 0, 0, 0, 0, 0, 0, 0],
+        &[16, 0, 0, 0, 0, 0, 0, 0],
+        &[5, 16, 8, 0, 0, 0, 0, 0, 0, 0, 0],
+        &[8, 7, 6, 5, 4, 3, 2, 1],
+        &[0],
+    ];
+    assert_eq!(bytes, expected.concat());
+    assert_eq!(said(text), "nothing");
 }
 
 /// What may stand after `on`, and the attribute bytes of the two lines in each record that it is run for.

@@ -60,7 +60,7 @@ impl Draft {
         match execution.operations_of(instruction).find(of) {
             Some(at) => Ok(at),
             None => words.fault(format!(
-                "the instruction has no operation {word}: a load has R, a store LV and an RV for each of the {} processors (p, q, ..), an mf F",
+                "the instruction has no operation {word}: a load has R, a store LV and an RV for each of the {} processors (p, q, ..), a semaphore R and these, an mf F",
                 execution.processors
             )),
         }
@@ -71,7 +71,7 @@ impl Draft {
         let line = words.line;
         self.need_programs(key, words)?;
         let number = match key {
-            "breaks" => words.number_to(14, "the number of a rule, 1 to 14")? as u8,
+            "breaks" => words.number_to(16, "the number of a rule, 1 to 16")? as u8,
             "operations" => words.number_to(128, "the number of operations, 0 to 128")? as u8,
             "refused" => read_question(words)?,
             _ => 0,

@@ -139,9 +139,9 @@ impl Draft {
         }
     }
 
-    /// `LA1: ld2.acq x sees 0x0077`.
+    /// `LA1: ld2.acq x sees 0x0077`, `sem.acq x sees 0 writes 1`.
     fn read_instruction(&mut self, words: &mut Words) -> Result<Instruction, Fault> {
-        const WANTED: &str = "ld, ld.acq, st, st.rel or mf, with the size after ld or st where it is not 1, or `none` for a processor with no instruction";
+        const WANTED: &str = "ld, ld.acq, st, st.rel, sem.acq, sem.rel or mf, with the size after ld, st or sem where it is not 1, or `none` for a processor with no instruction";
         let mut word = words.take(WANTED)?;
         let mut label = None;
         if words.skip(":") {
@@ -166,8 +166,13 @@ impl Draft {
         let address = self.read_address(words)?;
         words.expect(if kind.is_load() { "sees" } else { "=" })?;
         let value = self.read_value(words, size)?;
-        let bytes = &value.to_le_bytes()[..size];
-        Ok(self.placed(notation::access(kind, address, bytes)))
+        if !kind.is_semaphore() {
+            return Ok(self.placed(notation::access(kind, address, &value)));
+        }
+        words.expect("writes")?;
+        let written = self.read_value(words, size)?;
+        let semaphore = notation::semaphore(kind, address, &value, &written);
+        Ok(self.placed(semaphore))
     }
 
     fn placed(&self, instruction: Instruction) -> Instruction {
@@ -177,14 +182,14 @@ impl Draft {
         }
     }
 
-    /// A number, or a place for its address, that `size` bytes hold.
-    fn read_value(&self, words: &mut Words, size: usize) -> Result<u64, Fault> {
+    /// The `size` bytes of a number, or of a place's address, that they hold.
+    fn read_value(&self, words: &mut Words, size: usize) -> Result<Vec<u8>, Fault> {
         let word = words.take("the value")?;
         let value = self.address_of(words, word)?;
         if size < 8 && value >> (8 * size) != 0 {
-            return words.fault(format!("{word} does not fit into size {size}: write a smaller value, or the size after ld or st"));
+            return words.fault(format!("{word} does not fit into size {size}: write a smaller value, or the size after ld, st or sem"));
         }
-        Ok(value)
+        Ok(value.to_le_bytes()[..size].to_vec())
     }
 
     /// Instructions and operations are spoken of after the programs.
@@ -278,12 +283,15 @@ fn kind_and_size(word: &str) -> Option<(Kind, usize)> {
         Some((access, order)) => (access, Some(order)),
         None => (word, None),
     };
-    let (name, size) = access.split_at_checked(2)?;
+    let name = access.trim_end_matches(|c: char| c.is_ascii_digit());
+    let size = &access[name.len()..];
     let kind = match (name, order) {
         ("ld", None) => Kind::Load,
         ("ld", Some("acq")) => Kind::LoadAcquire,
         ("st", None) => Kind::Store,
         ("st", Some("rel")) => Kind::StoreRelease,
+        ("sem", Some("acq")) => Kind::SemaphoreAcquire,
+        ("sem", Some("rel")) => Kind::SemaphoreRelease,
         _ => return None,
     };
     match size {

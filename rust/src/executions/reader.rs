@@ -111,7 +111,7 @@ fn asks(question: u8) -> &'static str {
         3 => "are there 1 to 8 lines, addresses 0 to 63?",
         4 => "is the attribute WB, UC, WC, UC1, UC2 or UC3?",
         5 => "are there at most 40 instructions?",
-        6 => "is the kind ld, ld.acq, st, st.rel or mf?",
+        6 => "is the kind ld, ld.acq, st, st.rel, mf, sem.acq or sem.rel?",
         7 => "is the size 1, 2, 4 or 8?",
         8 => "is the address a multiple of the size, within the lines?",
         9 => "are data bytes past the size zero?",
@@ -120,11 +120,12 @@ fn asks(question: u8) -> &'static str {
         13 => "does each pair name an earlier and a later instruction of one program, no mf, not two stores?",
         14 => "do the pairs ascend?",
         15 => "does the record end?",
+        26 => "is the semaphore's line WB?",
         _ => panic!("no record fails question {question}"),
     }
 }
 
-/// A claim other than 'refused' is about an execution that passes questions 1 to 15.
+/// A claim other than 'refused' is about an execution that passes the questions of a record.
 fn accept(written: &Written) -> Result<(), Fault> {
     let claimed = |claim: &&Claim| !matches!(claim.says, Says::Refused(_));
     let Some(claim) = written.claims.iter().find(claimed) else {

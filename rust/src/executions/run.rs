@@ -96,6 +96,8 @@ fn run(execution: &Execution, says: &Says, random: &mut Random) -> Result<Ran, S
     if let Says::Refused(question) = says {
         return refused(&bytes, *question).map(|()| ONE);
     }
+    // The reader passed it on WB; where a semaphore lies elsewhere it is refused.
+    claimed("check", by_reference, Ok(()))?;
     chain_tables(execution, &bytes)?;
     match says {
         Says::Refused(_) => Ok(ONE),
