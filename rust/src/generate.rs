@@ -71,8 +71,8 @@ pub fn without_semaphores(random: &mut Random, shape: &Shape) -> Execution {
     generated(random, shape, lines, &PLAIN_KINDS, (1, 9))
 }
 
-/// An execution of all kinds. Most of its lines are WB, where semaphores may lie, the first always. As with locks, there are often
-/// only two values.
+/// An execution of all kinds. Most of its lines are WB, the first always: there semaphores may lie. Often there are only two
+/// values, as with locks.
 pub fn with_semaphores(random: &mut Random, shape: &Shape) -> Execution {
     let mut attributes = vec![Attribute::WriteBack; random.pick(&[6, 30])];
     attributes.extend(Attribute::all());
