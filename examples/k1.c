@@ -1,5 +1,5 @@
-/* K1 (one processor: st x=1, ld x sees 1) through every call; then a record with no instruction, and one of UC memory with its
- * domains. k1.txt is what it prints. */
+/* K1 (one processor: st x=1, ld x sees 1) through every call; then a record with no instruction, one of UC memory with its
+ * domains, and a lock that two processors take. k1.txt is what it prints. */
 #include "oglindesh.h"
 #include <stdio.h>
 
@@ -30,6 +30,21 @@ static uint8_t uncacheable[] = {
     0,                                /* no pair */
 };
 
+/* Two processors take a lock, sem.acq x sees 0 writes 1: both see it free. The operations of the first are 0 (R), 1 (LV), 2 and 3
+ * (RV), those of the second 4 to 7. */
+static const uint8_t lock[] = {
+    2,                                /* two processors */
+    1,                                /* one line: */
+    0, 0, 0, 0, 0, 0, 0, 0, 0,        /* WB, eight initial bytes */
+    1,                                /* one instruction of the first: */
+    5, 0, 1, 0, 0, 0, 0, 0, 0, 0, 0,  /* sem.acq, address 0, size 1, sees 0 */
+    1, 0, 0, 0, 0, 0, 0, 0,           /* and writes 1 */
+    1,                                /* one of the second: */
+    5, 0, 1, 0, 0, 0, 0, 0, 0, 0, 0,  /* the same */
+    1, 0, 0, 0, 0, 0, 0, 0,
+    0,                                /* no pair */
+};
+
 static void say_judgement(const uint8_t *record, size_t length, const uint8_t *order, size_t entries)
 {
     uint32_t number = oglindesh_judge(record, length, order, entries);
@@ -41,15 +56,15 @@ static void say_judgement(const uint8_t *record, size_t length, const uint8_t *o
         printf("the order is legal\n");
 }
 
-/* Searches in calls of two steps each, and prints where each of them comes to. */
-static void search_in_parts(const uint8_t *record, size_t length)
+/* Searches in calls of so many steps each, and prints where each of them comes to. */
+static void search_in_parts(const uint8_t *record, size_t length, uint32_t allowance)
 {
     uint8_t buffer[OGLINDESH_MAX_OPERATIONS];
     struct oglindesh_search_reply reply = {OGLINDESH_UNFINISHED, 0, 0};
     uint64_t steps = 0;
 
     while (reply.answer == OGLINDESH_UNFINISHED) {
-        reply = oglindesh_search(record, length, buffer, sizeof buffer, reply.length, 2);
+        reply = oglindesh_search(record, length, buffer, sizeof buffer, reply.length, allowance);
         steps += reply.steps;
         if (reply.answer > OGLINDESH_REFUSED) {
             printf("question %u refuses the search\n", (unsigned)(reply.answer - OGLINDESH_REFUSED));
@@ -81,18 +96,21 @@ static void print_chains(void)
 int main(void)
 {
     static const uint8_t local[] = {0, 2, 1}, remote_first[] = {1, 0, 2}, turned[] = {1, 0};
+    static const uint8_t both_free[] = {0, 4, 1, 2, 3, 5, 7, 6};
 
     printf("check: %u\n", (unsigned)oglindesh_check(k1, sizeof k1));
     printf("check of a shorter record: %u\n", (unsigned)oglindesh_check(k1, sizeof k1 - 1));
     say_judgement(k1, sizeof k1, local, sizeof local);
     say_judgement(k1, sizeof k1, remote_first, sizeof remote_first);
     say_judgement(k1, sizeof k1, local, 2);
-    search_in_parts(k1, sizeof k1);
+    search_in_parts(k1, sizeof k1, 2);
     print_chains();
     say_judgement(nothing, sizeof nothing, local, 0);
-    search_in_parts(nothing, sizeof nothing);
+    search_in_parts(nothing, sizeof nothing, 2);
     say_judgement(uncacheable, sizeof uncacheable, turned, sizeof turned);
     uncacheable[Y_ATTRIBUTE] = 1 + 16 * 1;
     say_judgement(uncacheable, sizeof uncacheable, turned, sizeof turned);
+    say_judgement(lock, sizeof lock, both_free, sizeof both_free);
+    search_in_parts(lock, sizeof lock, 25);
     return 0;
 }

@@ -6,7 +6,7 @@
 //!
 //! | call | `Ok` says |
 //! |---|---|
-//! | [`check`] | the record passes questions 1 to 15 |
+//! | [`check`] | the record passes questions 1 to 15 and 26 |
 //! | [`judge`] | whether an order is legal, else the lowest rule that it breaks |
 //! | [`search`] | allowed, with the first legal order; forbidden; or unfinished, with the position to go on from |
 //! | [`chain_table`] | the table is written: from which operation links lead to which |
@@ -45,6 +45,24 @@
 //! assert_eq!(chain_table(&record, &mut table), Ok(()));
 //! assert_eq!(table, [0, 1, 1, 0, 0, 0, 0, 0, 0]);
 //! ```
+//!
+//! A lock that two processors take by a semaphore, both of which see it free:
+//!
+//! ```
+//! use oglindesh::executions;
+//! use oglindesh::proved::{judge, search, Judgement, Verdict};
+//!
+//! let text = "execution lock
+//!   programs A: sem.acq x sees 0 writes 1; B: sem.acq x sees 0 writes 1
+//!   forbidden";
+//! let written = executions::read("lock", text).expect("it is well written");
+//! let record = written[0].execution.to_bytes();
+//! let reply = search(&record, &mut [0; 128], 0, 1_000);
+//! assert_eq!((reply.answer, reply.steps), (Ok(Verdict::Forbidden), 50));
+//!
+//! // The operations of A are 0 (R), 1 (LV), 2 and 3 (RV), those of B 4 to 7. RV of A to q stands between R and RV of B to q.
+//! assert_eq!(judge(&record, &[0, 4, 1, 2, 3, 5, 7, 6]), Ok(Judgement::Breaks(16)));
+//! ```
 
 mod exported {
     extern "C" {
@@ -82,7 +100,7 @@ mod exported {
 
 /// The numbers that the calls return, by the names that include/oglindesh.h has for them.
 pub mod numbers {
-    /// [`check`](super::check): the record passes questions 1 to 15.
+    /// [`check`](super::check): the record passes questions 1 to 15 and 26.
     pub const PASSES: u32 = 0;
     /// [`judge`](super::judge): the order breaks no rule.
     pub const LEGAL: u32 = 0;
@@ -103,7 +121,7 @@ fn question(number: u32) -> u8 {
     u8::try_from(number - REFUSED).expect("a refusal is 256 + the number of a question")
 }
 
-/// Whether a record passes questions 1 to 15; if not, the number of the first that it fails.
+/// Whether a record passes questions 1 to 15 and 26; if not, the number of the first that it fails.
 ///
 /// ```
 /// use oglindesh::proved::check;
@@ -165,8 +183,8 @@ fn rule(number: u32) -> u8 {
 /// Writes the chain table of a record's N operations to the front of `table`; where a question refuses it, the number of the
 /// first that it fails.
 ///
-/// The byte at a × N + b becomes 1 where one or more links of rules 1 to 8 and 13 lead from operation a to operation b, else 0.
-/// Bytes past N × N stay as they are; at a refusal all do.
+/// The byte at a × N + b becomes 1 where one or more links of rules 1 to 8, 13 and 15 lead from operation a to operation b, else
+/// 0. Bytes past N × N stay as they are; at a refusal all do.
 ///
 /// ```
 /// use oglindesh::proved::chain_table;

@@ -1,10 +1,10 @@
-//! How much stack the calls need: each is made on the largest record in a thread of 128 KB, and in one of what the header says.
+//! How much stack the calls need: each is made on the largest records in a thread of 128 KB, and in one of what the header says.
 //!
 //! To measure, `cargo test --test stack -- --ignored --nocapture`: it prints for each call, on a small record and on the largest
-//! one, the smallest thread that comes through, in pages of 4 KB. Rust makes none below some 20 KB. To the byte it is measured
+//! ones, the smallest thread that comes through, in pages of 4 KB. Rust makes none below some 20 KB. To the byte it is measured
 //! in C: a thread on an array of one's own (`pthread_attr_setstack`), filled before the call and looked at after it.
 
-use oglindesh::examples::k1;
+use oglindesh::examples::{k1, longest};
 use oglindesh::proved::{chain_table, check, judge, search, Judgement, Verdict};
 use oglindesh::reference::notation::{acq, ld, programs, rel, st};
 use oglindesh::reference::record::{Attribute, Execution, Instruction};
@@ -89,7 +89,8 @@ fn case(execution: &Execution) -> Case {
     }
 }
 
-/// As much as a record can hold of everything: 8 processors, 8 lines of all attributes, 40 instructions, 128 operations, 40 pairs.
+/// As many as a record can hold of everything: 8 processors, 8 lines of all attributes, 40 instructions, 128 operations, 40 pairs.
+/// That of the most bytes is the longest one.
 fn largest() -> Execution {
     // Five instructions a processor; three processors store twice, the others once.
     let program = |p: u8| -> Vec<Instruction> {
@@ -133,7 +134,11 @@ fn the_largest_record_is_as_large_as_any() {
     let largest = largest();
     assert_eq!(largest.operation_count(), 128);
     assert_eq!(largest.pairs.len(), 40);
-    assert_eq!(largest.to_bytes().len(), 603);
+    assert_eq!(largest.instructions.len(), 40);
+    assert!(HEADER.contains(&format!(
+        "OGLINDESH_MAX_RECORD {}\n",
+        longest().to_bytes().len()
+    )));
     let mut buffer = [0; 128];
     let long = search(&case(&largest).forbidden, &mut buffer, 0, 2 * LONG);
     assert_eq!(long.answer, Ok(Verdict::Unfinished));
@@ -141,19 +146,21 @@ fn the_largest_record_is_as_large_as_any() {
 
 #[test]
 fn every_call_in_128_kilobytes() {
-    let case = case(&largest());
-    for call in CALLS {
-        run_in(128, call.name, call.run, &case);
+    for case in [largest(), longest()].map(|execution| case(&execution)) {
+        for call in CALLS {
+            run_in(128, call.name, call.run, &case);
+        }
     }
 }
 
 #[test]
 fn every_call_in_what_the_header_says() {
-    let case = case(&largest());
-    for call in CALLS {
-        let said = format!("{} {} KB", call.name, call.needs);
-        assert!(HEADER.contains(&said), "the header does not say `{said}`");
-        run_in(call.needs + THREAD, call.name, call.run, &case);
+    for case in [largest(), longest()].map(|execution| case(&execution)) {
+        for call in CALLS {
+            let said = format!("{} {} KB", call.name, call.needs);
+            assert!(HEADER.contains(&said), "the header does not say `{said}`");
+            run_in(call.needs + THREAD, call.name, call.run, &case);
+        }
     }
 }
 
@@ -169,7 +176,11 @@ fn measure() {
         run: |_| {},
     };
     let calls: Vec<Call> = [nothing].into_iter().chain(CALLS).collect();
-    let records = [("K1", k1()), ("the largest record", largest())];
+    let records = [
+        ("K1", k1()),
+        ("the most operations", largest()),
+        ("the most bytes", longest()),
+    ];
     if let Ok(asked) = std::env::var(ASKED) {
         let asked: Vec<usize> = asked.split(' ').flat_map(str::parse).collect();
         let call = &calls[asked[1]];
