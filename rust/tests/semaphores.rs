@@ -81,11 +81,11 @@ fn operations() {
     }
 }
 
-/// Faults of an entry, by the question that each fails, in the order in which they are asked.
+/// Faults of an entry, by the question that each fails, in the order in which they are asked. The address stays within the line.
 const FAULTS: [(u8, &[(usize, u8)]); 6] = [
     (6, &[(ENTRY, 7)]),
     (7, &[(ENTRY + 2, 16)]),
-    (8, &[(ENTRY + 1, 255)]),
+    (8, &[(ENTRY + 1, 1)]),
     (26, &[(ATTRIBUTE, 1)]),
     (9, &[(ENTRY + 3 + 2, 1)]),
     (9, &[(ENTRY + 11 + 7, 1)]),
