@@ -670,7 +670,7 @@ fn near(order: &[u8]) -> Vec<Vec<u8>> {
 }
 
 /// All calls on records with semaphores, the proved ones beside the reference, the search beside the brute force and the count
-/// over sets; and the note's lemma 1 on every legal order found, and on those near it.
+/// over sets; and the note's lemma 1 on every legal order found, and for small records on those near it.
 #[test]
 fn all_calls_and_lemma_1() {
     let mut random = Random::new(32);
@@ -688,14 +688,15 @@ fn all_calls_and_lemma_1() {
             SearchAnswer::Unfinished => tally.unfinished += 1,
             SearchAnswer::Refused(question) => panic!("question {question}"),
         }
-        if e.operation_count() > Shape::SMALL.operations {
-            continue;
-        }
+        let small = e.operation_count() <= Shape::SMALL.operations;
         if let Some(found) = answers.found() {
             tally.lemma_1(&e, found, judge(&bytes, found));
-            for order in near(found) {
-                tally.lemma_1(&e, &order, judge(&bytes, &order));
+            for order in near(found).iter().filter(|_| small) {
+                tally.lemma_1(&e, order, judge(&bytes, order));
             }
+        }
+        if !small {
+            continue;
         }
         let (mut buffer, mut other) = ([255; 128], [255; 128]);
         let reply = search(&bytes, &mut buffer, 0, 40);
