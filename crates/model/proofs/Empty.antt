@@ -9,7 +9,7 @@ use lib.Seq.{take-at, drop-at}
 use borrow.Author.Tests.{le-leb, lt-leb, ne-eqb}
 use Rattle.base.specs.Lists.{for, below, count, distinct, keep}
 use Rattle.base.specs.Lex.{lexLess}
-use Rattle.model.specs.Execution.{Attribute, Line, Instruction, Execution, operationCount, operations}
+use Rattle.model.specs.Execution.{Attribute, Line, Execution, operationCount, operations}
 use Rattle.model.specs.Questions.{Found, found, next, item, byte, ask, many, question2, question3, question5, question11, question12, question15, lineLength, lineOf, lineAttributes, readLine, readLines, readProgram, readPrograms, readInstructions, readPairs, readRecord}
 use Rattle.model.specs.Rules.{rules, keeps, consistent}
 use Rattle.model.specs.Search.{allowed, upToFull, extensions, prefixes, after, searchFrom}

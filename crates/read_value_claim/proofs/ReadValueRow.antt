@@ -12,7 +12,7 @@ use Rattle.base.specs.Lists.{all, any, keep, for, count, below, member, distinc
 use Rattle.base.specs.Below.{allBelow, anyBelow}
 use Rattle.base.specs.Bits.{packedOn, packed, bit}
 use Rattle.base.proofs.Tests.{all-at}
-use Rattle.model.specs.Execution.{kindOf, roles, placeAmong, remotesAt, operationCount, operations, operationsOf, allOperations, loads, stores, semaphores, attributes, lineAt, attributeAt}
+use Rattle.model.specs.Execution.{kindOf, roles, placeAmong, remotesAt, operationCount, operations, operationsOf, allOperations, loads, stores, attributes, lineAt, attributeAt}
 use Rattle.model.specs.Questions.{initialPlace, next, item, byte, ask, question2, question3, question4, question5, question6, question7, question8, question26, question9, question11, question12, question15, many, lineOf, readLine, readLines, writtenFrom, seenOf, wroteOf, instructionOf, readInstruction, readProgram, readPrograms, readInstructions, readPairs, readRecord}
 use Rattle.model.specs.ProgramOrder.{ruleMarks, marks}
 use Rattle.model.specs.Rules.{addresses, accesses, overlap, link1, link2, link3, link4, link5, link6, link7, paired, link8, link13, link15, conflict, linked}

@@ -1,17 +1,17 @@
 -- Laws of the marks of two instructions.
-use Prim.Native.Nat.{ℕ, _+_, _*_, _≤_, _<_, min, max}
+use Prim.Native.Nat.{ℕ, _+_, _*_, min, max}
 use native.Mathlib.Omega.{arith}
-use mathlib.Core.Path.{_≡_, refl, sym, ap, ap₂, _∙_}
+use mathlib.Core.Path.{_≡_, refl, sym, ap₂, _∙_}
 use mathlib.Core.Bool.{Bool, true, false, cond, _&&_}
 use mathlib.Core.List.{List, [], _∷_}
-use lib.ListN.{getD, List·getD-eq-default}
+use lib.ListN.{getD}
 use lib.Dec.{eqb, leb, ltb}
 use borrow.Author.Tests.{le-leb, lt-ltb, leb-true, ltb-true, eqb-true}
 use Rattle.base.specs.Lists.{any, all, count, member}
 use Rattle.base.specs.Bits.{packed, packedOn}
 use Rattle.base.proofs.Bools.{agree, and-parts, and-both}
 use Rattle.base.proofs.Bits.{bit-packed}
-use Rattle.base.proofs.Lists.{any-witness, any-member, all-member, in-count, of-count, getD-below}
+use Rattle.base.proofs.Lists.{any-witness, any-member, all-member, in-count, of-count}
 use Rattle.base.specs.Below.{anyBelow}
 use Rattle.base.proofs.Tests.{any-numbered}
 use Rattle.model.specs.Execution.{Kind, Instruction, kindRow}

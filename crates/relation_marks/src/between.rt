@@ -119,7 +119,14 @@ fn marks_by(
 {
     let semaphores = semaphore_marks(same, overlaps, first, second);
     let memory = memory_marks(
-        semaphores, same, own, overlaps, first, second, of_first, of_second,
+        semaphores,
+        same,
+        own,
+        overlaps,
+        first,
+        second,
+        of_first,
+        of_second,
     );
     if !either(same, earlier) {
         return unrelated_marks(memory, given);

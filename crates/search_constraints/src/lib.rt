@@ -98,14 +98,7 @@ fn is_unlinked(marks: u16, role: u8) -> bool
 }
 
 // A set, with the LV of a semaphore, its second operation, where some rule links it to an operation with a role.
-fn with_second(
-    set: Set,
-    marks: u16,
-    kind: Kind,
-    processor: u8,
-    first: OperationNo,
-    role: u8,
-) -> Set
+fn with_second(set: Set, marks: u16, kind: Kind, processor: u8, first: OperationNo, role: u8) -> Set
     requires { ⌜ first .0 < 65536 ⌝ }
     ensures { λ r. ⌜ ((a : ℕ) → a < 128 → holds (r .lo) (r .hi) a ≡ (holds (set .lo) (set .hi) a || secondLinked marks (meant kind) processor (first .0) role a)) ⌝ }
 {

@@ -1,5 +1,5 @@
 -- The instruction and the role of an operation: no other operation has its number.
-use Prim.Native.Nat.{ℕ, _-_, _<_}
+use Prim.Native.Nat.{ℕ, _<_}
 use native.Mathlib.Omega.{arith}
 use mathlib.Core.Path.{_≡_, sym, ap, _∙_, subst}
 use mathlib.Core.List.{List·Memᴰ, Memᴰ·map, Memᴰ·of-map}

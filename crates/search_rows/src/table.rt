@@ -1,7 +1,6 @@
 // All rows.
 ghost use mathlib.Core.Path.{_≡_};
-ghost use mathlib.Core.List.{List};
-ghost use Prim.Native.Nat.{ℕ, _*_, _<_};
+ghost use Prim.Native.Nat.{_*_, _<_};
 ghost use lib.ListN.{length};
 ghost use Rattle.model.specs.Accepted.{Accepted};
 ghost use Rattle.record_decoded.specs.Decoded.{executionOf};
