@@ -177,7 +177,7 @@ pub fn table_column(k: Kind) -> usize
 }
 
 // How many operations a kind gives before the RVs.
-fn before_remotes(k: Kind) -> usize
+pub fn before_remotes(k: Kind) -> usize
     ensures { λ r. ⌜ (r ≡ remotesAt (meant k)) × (1 ≤ r) × (r < 4) ⌝ }
 {
     wide16(kind_row(k) % FIRST_ROLE / BEFORE_REMOTES)

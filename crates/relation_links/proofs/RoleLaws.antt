@@ -70,7 +70,10 @@ pub roles-past : (rule m p : ℕ) (a b : Role) → 16 ≤ rule → false ≡ rol
 unfolding rolesLink
 roles-past rule m p a b h = rw List·getD-eq-default
 
--- past four numbers, one after the other
+-- past three and past four numbers, one after the other
+pub past-three : (n k : ℕ) → k < n → (n ≡ k + 1 → ⊥) → (n ≡ k + 2 → ⊥) → (n ≡ k + 3 → ⊥) → k + 3 < n
+past-three n k h a b c = omega arith
+
 pub past-four : (n k : ℕ) → k < n → (n ≡ k + 1 → ⊥) → (n ≡ k + 2 → ⊥) → (n ≡ k + 3 → ⊥) → (n ≡ k + 4 → ⊥) → k + 4 < n
 past-four n k h a b c d = omega arith
 
@@ -88,24 +91,22 @@ roles-none rule m p a b h n l = go (decLt rule 1) (decLt rule 10) (decLt rule 11
     go (no g) (no k) (no k2) (no k3) (no k4) (yes l) = roles-at 14 rule m p a b (omega (arith, n)) refl
     go (no g) (no k) (no k2) (no k3) (no k4) (no k5) = roles-past rule m p a b (omega (arith, n, l))
 
--- the marks of the rules: past the table 1, and none is 0
-pub mark-past : (rule : ℕ) → 16 ≤ rule → 1 ≡ ruleMark rule
+-- the mark of a rule, at the rule
+pub mark-at : (k rule : ℕ) → rule ≡ k → ruleMark k ≡ ruleMark rule
+mark-at k rule e = ap ruleMark (sym e)
+
+-- the other rules ask for mark 1
+pub mark-none : (rule : ℕ) → (1 < rule → 8 < rule) → (rule ≡ 13 → ⊥) → 1 ≡ ruleMark rule
 unfolding ruleMark
-mark-past rule h = sym (List·getD-eq-default ruleMarkTable 1 {n = rule} (omega arith))
-
-positive : (l : List ℕ) (i : ℕ) → all (ltb 0) l ≡ true → 0 < getD l i 1
-unfolding all
-positive [] i h = omega arith
-positive (x ∷ l) zero h = ltb-true 0 x (and-parts (ltb 0 x) (all (ltb 0) l) h .0)
-positive (x ∷ l) (suc i) h = positive l i (and-parts (ltb 0 x) (all (ltb 0) l) h .1)
-
-pub mark-positive : (rule : ℕ) → 0 < ruleMark rule
-unfolding ruleMark all
-mark-positive rule = positive ruleMarkTable rule refl
-
--- the mark that stands in the table
-pub mark-there : (rule : ℕ) → rule < 16 → (getD ruleMarkTable rule 0 ≡ ruleMark rule) × (0 < getD ruleMarkTable rule 0)
-unfolding ruleMark
-mark-there rule h =
-    let e : getD ruleMarkTable rule 0 ≡ ruleMark rule = getD-there ruleMarkTable rule 0 1 h in
-    (e, omega (arith, mark-positive rule))
+mark-none rule h n = go (decLt rule 1) (decLt rule 2) (decLt rule 10) (decLt rule 11) (decLt rule 12) (decLt rule 13) (decLt rule 15) (decLt rule 16)
+  where
+    go : Dec (rule < 1) → Dec (rule < 2) → Dec (rule < 10) → Dec (rule < 11) → Dec (rule < 12) → Dec (rule < 13) → Dec (rule < 15) → Dec (rule < 16) → 1 ≡ ruleMark rule
+    go (yes l) d1 d9 d10 d11 d12 d14 d15 = mark-at 0 rule (omega arith)
+    go (no g) (yes l) d9 d10 d11 d12 d14 d15 = mark-at 1 rule (omega arith)
+    go (no g) (no k1) (yes l) d10 d11 d12 d14 d15 = mark-at 9 rule (let k : 8 < rule = h (omega arith) in omega arith)
+    go (no g) (no k1) (no k9) (yes l) d11 d12 d14 d15 = mark-at 10 rule (omega arith)
+    go (no g) (no k1) (no k9) (no k10) (yes l) d12 d14 d15 = mark-at 11 rule (omega arith)
+    go (no g) (no k1) (no k9) (no k10) (no k11) (yes l) d14 d15 = mark-at 12 rule (omega arith)
+    go (no g) (no k1) (no k9) (no k10) (no k11) (no k12) (yes l) d15 = mark-at 14 rule (omega (arith, n))
+    go (no g) (no k1) (no k9) (no k10) (no k11) (no k12) (no k14) (yes l) = mark-at 15 rule (omega arith)
+    go (no g) (no k1) (no k9) (no k10) (no k11) (no k12) (no k14) (no k15) = sym (List·getD-eq-default ruleMarkTable 1 {n = rule} (omega arith))

@@ -82,34 +82,20 @@ fn is_same_visibility(a: u8, b: u8) -> bool
 // How many visibility rules there are.
 pub const RULES: u8 = 16;
 
-// The marks that the rules below the last ask for, by their numbers from 0 on. Rules without a link ask for SAME.
-const RULE_MARKS: [u16; RULES as usize] = [
-    SAME,
-    SAME,
-    ACQUIRE,
-    RELEASE,
-    FENCE,
-    OVERLAP,
-    OVERLAP,
-    OVERLAP,
-    PAIR,
-    SAME,
-    SAME,
-    SAME,
-    SAME,
-    DOMAIN,
-    SAME,
-    SAME,
-];
-
-// The mark that a rule asks for.
+// The mark that a rule asks for; rules without a link ask for SAME.
 pub fn rule_mark(rule: u8) -> u16
     ensures { λ r. ⌜ (r ≡ ruleMark rule) × (0 < r) ⌝ }
 {
-    if rule < RULES {
-        RULE_MARKS[rule as usize]
-    } else {
-        SAME
+    match rule {
+        2 => ACQUIRE,
+        3 => RELEASE,
+        4 => FENCE,
+        5 => OVERLAP,
+        6 => OVERLAP,
+        7 => OVERLAP,
+        8 => PAIR,
+        13 => DOMAIN,
+        _ => SAME,
     }
 }
 

@@ -5,20 +5,20 @@ use mathlib.Core.Path.{_≡_, refl, sym, ap, ap₂, _∙_}
 use mathlib.Core.Bool.{Bool, true, false, not, _&&_, _||_, and-true, and-false, or-false}
 use lib.ListN.{length, getD}
 use lib.Dec.{eqb, leb, ltb}
-use borrow.Author.Tests.{eq-eqb, ne-eqb, eqb-true, eqb-false, le-leb, leb-true, lt-ltb, ltb-true}
+use borrow.Author.Tests.{eq-eqb, ne-eqb, eqb-true, eqb-false, le-leb, leb-true, lt-ltb, ltb-true, ltb-false}
 use Rattle.base.specs.Below.{anyBelow}
 use Rattle.base.proofs.Tests.{any-passes, any-below-same, some-at}
-use Rattle.base.proofs.Bools.{agree, split, clash, is-false, and-parts, and-both, or-cases, or-right}
-use Rattle.model.specs.Execution.{Kind, isLoad, isStore, isSemaphore, Role, LV, F, RV, hasRoleRV, roles, remotesAt, numberFrom}
+use Rattle.base.proofs.Bools.{agree, split, clash, is-false, and-parts, and-both, or-cases, or-left, or-right}
+use Rattle.model.specs.Execution.{Kind, kindRow, isStore, Role, F, RV, hasRoleRV, roles, remotesAt, numberFrom}
 use Rattle.record_decoded.specs.Kinds.{roleNumbered}
 use Rattle.record_decoded.proofs.RoleNumbers.{role-RV, remote-numbered}
-use Rattle.model.proofs.Numbers.{one-before-remotes, two-before-remotes, some-before-remotes, store-count, other-count, role-before-remotes, second-role, remote-role}
+use Rattle.model.proofs.Numbers.{store-count, other-count, role-before-remotes, remote-role}
 use Rattle.relation_marks.specs.Marks.{hasMark}
 use Rattle.relation_links.specs.Links.{ruleMark, rolesLink, linkBy}
 use Rattle.relation_links.specs.Linked.{linkedBy}
 use Rattle.relation_links.proofs.RoleLaws.{not-rv}
 use Rattle.relation_links.proofs.LinkedLaws.{rule-links, no-mark, from-remote}
-use Rattle.search_constraints.specs.Rows.{isRemote, remoteLinked, secondLinked, linkedFrom}
+use Rattle.search_constraints.specs.Rows.{isRemote, remoteLinked, localLinked, linkedFrom}
 
 -- Tests
 
@@ -177,8 +177,9 @@ module _ (m p first n role a : ℕ) (k : Kind) where
   abbrev linkedAs : Role → Bool
   linkedAs r = linkedBy m p r (roleNumbered role)
 
-  some-role : 0 < length (roles n k)
-  some-role = split (isStore k) (λ t. omega (arith, some-before-remotes k .0, store-count n k t)) (λ f. omega (arith, some-before-remotes k .0, other-count n k f))
+  -- the operations before the RVs are some of all
+  pub remotes-few : remotesAt k ≤ length (roles n k)
+  remotes-few = split (isStore k) (λ t. omega (arith, store-count n k t)) (λ f. omega (arith, other-count n k f))
 
   pub no-links : ((j : ℕ) (r : Role) → linkedBy m j r (roleNumbered role) ≡ false) → linkedFrom m k p first n role a ≡ false
   unfolding linkedFrom
@@ -186,114 +187,70 @@ module _ (m p first n role a : ℕ) (k : Kind) where
       ap (λ (b : Bool). leb first a && (ltb a (first + length (roles n k)) && b)) (h p (getD (roles n k) (a - first) F))
       ∙ ap (λ (b : Bool). leb first a && b) (and-false (ltb a (first + length (roles n k)))) ∙ and-false (leb first a)
 
-  at-first : a ≡ first → linkedFrom m k p first n role a ≡ linkedAs (getD (roles n k) 0 F)
-  unfolding linkedFrom
-  at-first e =
-      ap₂ (λ (b d : Bool). b && (d && linkedAs (getD (roles n k) (a - first) F))) (le-leb first a (omega arith)) (lt-ltb a (first + length (roles n k)) (omega (arith, some-role)))
-      ∙ ap (λ (j : ℕ). linkedAs (getD (roles n k) j F)) (let z : a - first ≡ 0 = omega arith in z)
-
-  -- the first operation, where that is linked
-  abbrev firstLinked : Bool
-  firstLinked = linkedAs (getD (roles n k) 0 F) && eqb a first
-
-  there : eqb a first ≡ true → firstLinked ≡ linkedAs (getD (roles n k) 0 F)
-  there t = ap (λ (b : Bool). linkedAs (getD (roles n k) 0 F) && b) t ∙ and-true (linkedAs (getD (roles n k) 0 F))
-
-  elsewhere : eqb a first ≡ false → firstLinked ≡ false
-  elsewhere f = ap (λ (b : Bool). linkedAs (getD (roles n k) 0 F) && b) f ∙ and-false (linkedAs (getD (roles n k) 0 F))
-
-  -- what is no store is no semaphore, and only these give two operations before the RVs
-  no-semaphore : isStore k ≡ false → isSemaphore k ≡ false
-  no-semaphore s = ap (λ (b : Bool). isLoad k && b) s ∙ and-false (isLoad k)
-
-  -- a load or a fence has only that
-  pub first-links : isStore k ≡ false → linkedFrom m k p first n role a ≡ firstLinked
-  unfolding linkedFrom
-  first-links s = split (eqb a first)
-      (λ t. at-first (eqb-true a first t) ∙ sym (there t))
-      (λ f. is-false (linkedFrom m k p first n role a)
-      (λ u. let (u1, u2) = and-parts (leb first a) (ltb a (first + length (roles n k)) && linkedAs (getD (roles n k) (a - first) F)) u in
-      let (u3, u4) = and-parts (ltb a (first + length (roles n k))) (linkedAs (getD (roles n k) (a - first) F)) u2 in
-      eqb-false a first f (omega (arith, leb-true first a u1, ltb-true a (first + length (roles n k)) u3, one-before-remotes k (no-semaphore s), other-count n k s)))
-      ∙ sym (elsewhere f))
-
-  -- an operation before the RVs is none of these
-  before-no-remote : a < first + remotesAt k → remoteLinked m k p first n role a ≡ false
-  unfolding remoteLinked
-  before-no-remote l =
-      is-false _ (λ t. let (q, _, h) = some-at _ n t in
-      let at = eqb-true a (numberFrom first k (RV q)) (and-parts (eqb a (numberFrom first k (RV q))) (linkedAs (RV q)) h .0) in
-      omega arith)
-
-  -- the others are
-  past-local : isStore k ≡ true → (first ≤ a → first + remotesAt k ≤ a) → linkedFrom m k p first n role a ≡ remoteLinked m k p first n role a
-  unfolding linkedFrom remoteLinked
-  past-local s f = agree (linkedFrom m k p first n role a) (remoteLinked m k p first n role a)
-      (λ t. let (t1, t2) = and-parts (leb first a) (ltb a (first + length (roles n k)) && linkedAs (getD (roles n k) (a - first) F)) t in
-      let (t3, t4) = and-parts (ltb a (first + length (roles n k))) (linkedAs (getD (roles n k) (a - first) F)) t2 in
-      let l = f (leb-true first a t1) in
-      let h = ltb-true a (first + length (roles n k)) t3 in
-      let q = a - first - remotesAt k in
-      any-passes _ n q (omega (arith, store-count n k s))
-      (and-both (eq-eqb a (numberFrom first k (RV q)) (omega arith)) (ap linkedAs (sym (at-place q (omega arith) h)) ∙ t4)))
-      (λ t. let (q, l, h) = some-at _ n t in
-      let (h1, h2) = and-parts (eqb a (numberFrom first k (RV q))) (linkedAs (RV q)) h in
-      let e = eqb-true a (numberFrom first k (RV q)) h1 in
-      let i : a < first + length (roles n k) = omega (arith, store-count n k s) in
-      and-both (le-leb first a (omega arith)) (and-both (lt-ltb a (first + length (roles n k)) i) (ap linkedAs (at-place q e i) ∙ h2)))
-    where
-      at-place : (q : ℕ) → a ≡ numberFrom first k (RV q) → a < first + length (roles n k) → getD (roles n k) (a - first) F ≡ RV q
-      at-place q e h = remote-role n k (a - first) (omega arith) (omega arith) ∙ ap RV (omega arith)
-
-  abbrev second : Bool
-  second = secondLinked m k p first role a
+  abbrev local : Bool
+  local = localLinked m k p first role a
 
   abbrev remotes : Bool
   remotes = remoteLinked m k p first n role a
 
-  not-second : (a ≡ first + 1 → ⊥) → second ≡ false
-  unfolding secondLinked
-  not-second f =
-      ap (λ (b : Bool). isSemaphore k && (linkedAs LV && b)) (ne-eqb a (first + 1) f)
-      ∙ ap (λ (b : Bool). isSemaphore k && b) (and-false (linkedAs LV)) ∙ and-false (isSemaphore k)
+  -- an operation before the RVs by its place
+  to-local : linkedFrom m k p first n role a ≡ true → a < first + remotesAt k → local ≡ true
+  unfolding linkedFrom localLinked
+  to-local t l =
+      let (t1, t2) = and-parts (leb first a) (ltb a (first + length (roles n k)) && linkedAs (getD (roles n k) (a - first) F)) t in
+      let (t3, t4) = and-parts (ltb a (first + length (roles n k))) (linkedAs (getD (roles n k) (a - first) F)) t2 in
+      let from = leb-true first a t1 in
+      any-passes _ (remotesAt k) (a - first) (omega arith)
+      (and-both (ap linkedAs (sym (role-before-remotes n k (a - first) (omega arith))) ∙ t4) (eq-eqb a (first + (a - first)) (omega arith)))
 
-  pub no-second : isSemaphore k ≡ false → second ≡ false
-  unfolding secondLinked
-  no-second f = ap (λ (b : Bool). b && (linkedAs LV && eqb a (first + 1))) f
+  of-local : local ≡ true → linkedFrom m k p first n role a ≡ true
+  unfolding linkedFrom localLinked
+  of-local t =
+      let (j, l, h) = some-at _ (remotesAt k) t in
+      let (h1, h2) = and-parts (linkedAs (getD (kindRow k .beforeRemotes) j F)) (eqb a (first + j)) h in
+      let e = eqb-true a (first + j) h2 in
+      and-both (le-leb first a (omega arith)) (and-both (lt-ltb a (first + length (roles n k)) (omega (arith, remotes-few)))
+      (ap linkedAs (ap (λ (i : ℕ). getD (roles n k) i F) (let z : a - first ≡ j = omega arith in z) ∙ role-before-remotes n k j l) ∙ h1))
 
-  pub second-is : isSemaphore k ≡ true → {b : Bool} → b ≡ linkedAs LV → (b && eqb a (first + 1)) ≡ second
-  unfolding secondLinked
-  second-is t e = ap₂ (λ (b d : Bool). b && (d && eqb a (first + 1))) (sym t) e
-
-  -- a semaphore gives LV as the second
-  at-second : isSemaphore k ≡ true → a ≡ first + 1 → linkedFrom m k p first n role a ≡ second
-  unfolding linkedFrom secondLinked
-  at-second t e =
-      let two = two-before-remotes k t in
-      let (loads, s) = and-parts (isLoad k) (isStore k) t in
-      ap₂ (λ (b d : Bool). b && (d && linkedAs (getD (roles n k) (a - first) F))) (le-leb first a (omega arith)) (lt-ltb a (first + length (roles n k)) (omega (arith, store-count n k s)))
-      ∙ ap (λ (j : ℕ). linkedAs (getD (roles n k) j F)) (let z : a - first ≡ 1 = omega arith in z)
-      ∙ ap linkedAs (role-before-remotes n k 1 (omega arith) ∙ second-role k (omega arith))
-      ∙ sym (ap₂ (λ (b d : Bool). b && (linkedAs LV && d)) t (eq-eqb a (first + 1) e) ∙ and-true (linkedAs LV))
-
-  -- a store has RVs too, and a semaphore LV before these
-  pub store-links : isStore k ≡ true → linkedFrom m k p first n role a ≡ (firstLinked || second || remotes)
-  store-links s = split (eqb a first)
+  -- a load or a fence has no others
+  pub local-links : isStore k ≡ false → linkedFrom m k p first n role a ≡ local
+  unfolding linkedFrom
+  local-links s =
+      agree (linkedFrom m k p first n role a) local
       (λ t.
-      let e = eqb-true a first t in
-      at-first e ∙ sym (there t) ∙ nothing-more firstLinked (not-second (λ z. omega arith)) ∙ nothing-more (firstLinked || second) (before-no-remote (omega (arith, some-before-remotes k .0))))
-      (λ f.
-      let other = eqb-false a first f in
-      split (isSemaphore k)
-      (λ t. split (eqb a (first + 1))
-      (λ u.
-      let e = eqb-true a (first + 1) u in
-      at-second t e ∙ sym (ap (λ (b : Bool). b || second) (elsewhere f)) ∙ nothing-more (firstLinked || second) (before-no-remote (omega (arith, two-before-remotes k t))))
-      (λ u.
-      let further = eqb-false a (first + 1) u in
-      past-local s (λ l. omega (arith, two-before-remotes k t, other, further)) ∙ sym (ap₂ (λ (b d : Bool). b || d || remotes) (elsewhere f) (not-second further))))
-      (λ t. past-local s (λ l. omega (arith, one-before-remotes k t, other)) ∙ sym (ap₂ (λ (b d : Bool). b || d || remotes) (elsewhere f) (no-second t))))
+      let (t1, t2) = and-parts (leb first a) (ltb a (first + length (roles n k)) && linkedAs (getD (roles n k) (a - first) F)) t in
+      let (t3, t4) = and-parts (ltb a (first + length (roles n k))) (linkedAs (getD (roles n k) (a - first) F)) t2 in
+      to-local t (omega (arith, ltb-true a (first + length (roles n k)) t3, other-count n k s)))
+      of-local
 
-  -- the first operation by its role in the code
-  pub first-role : (r : ℕ) {b : Bool} → ((j : ℕ) → 0 < length (roles j k) → roleNumbered r ≡ getD (roles j k) 0 F) → b ≡ linkedAs (roleNumbered r) → (b && eqb a first) ≡ firstLinked
-  first-role r f e = ap (λ (c : Bool). c && eqb a first) (e ∙ ap linkedAs (f n some-role))
+  -- an RV by its place
+  at-place : (q : ℕ) → a ≡ numberFrom first k (RV q) → a < first + length (roles n k) → getD (roles n k) (a - first) F ≡ RV q
+  at-place q e h = remote-role n k (a - first) (omega arith) (omega arith) ∙ ap RV (omega arith)
+
+  to-remote-by : isStore k ≡ true → linkedFrom m k p first n role a ≡ true → first + remotesAt k ≤ a → remotes ≡ true
+  unfolding linkedFrom remoteLinked
+  to-remote-by s t l =
+      let (t1, t2) = and-parts (leb first a) (ltb a (first + length (roles n k)) && linkedAs (getD (roles n k) (a - first) F)) t in
+      let (t3, t4) = and-parts (ltb a (first + length (roles n k))) (linkedAs (getD (roles n k) (a - first) F)) t2 in
+      let h = ltb-true a (first + length (roles n k)) t3 in
+      let q = a - first - remotesAt k in
+      any-passes _ n q (omega (arith, store-count n k s))
+      (and-both (eq-eqb a (numberFrom first k (RV q)) (omega arith)) (ap linkedAs (sym (at-place q (omega arith) h)) ∙ t4))
+
+  of-remote : isStore k ≡ true → remotes ≡ true → linkedFrom m k p first n role a ≡ true
+  unfolding linkedFrom remoteLinked
+  of-remote s t =
+      let (q, l, h) = some-at _ n t in
+      let (h1, h2) = and-parts (eqb a (numberFrom first k (RV q))) (linkedAs (RV q)) h in
+      let e = eqb-true a (numberFrom first k (RV q)) h1 in
+      let i : a < first + length (roles n k) = omega (arith, store-count n k s) in
+      and-both (le-leb first a (omega arith)) (and-both (lt-ltb a (first + length (roles n k)) i) (ap linkedAs (at-place q e i) ∙ h2))
+
+  -- a store has RVs too
+  pub store-links : isStore k ≡ true → linkedFrom m k p first n role a ≡ (local || remotes)
+  store-links s =
+      agree (linkedFrom m k p first n role a) (local || remotes)
+      (λ t. split (ltb a (first + remotesAt k))
+      (λ u. or-left local remotes (to-local t (ltb-true a (first + remotesAt k) u)))
+      (λ u. or-right local remotes (to-remote-by s t (ltb-false a (first + remotesAt k) u))))
+      (λ t. or-cases local remotes t of-local (of-remote s))

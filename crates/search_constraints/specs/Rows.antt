@@ -5,7 +5,7 @@ use mathlib.Core.List.{List}
 use lib.ListN.{length, getD}
 use lib.Dec.{eqb, leb, ltb}
 use Rattle.base.specs.Below.{anyBelow}
-use Rattle.model.specs.Execution.{Kind, kindOf, isStore, isSemaphore, LV, F, RV, roles, numberFrom}
+use Rattle.model.specs.Execution.{Kind, kindRow, kindOf, isStore, F, RV, remotesAt, roles, numberFrom}
 use Rattle.record_decoded.specs.Kinds.{roleNumbered}
 use Rattle.relation_marks.specs.Marks.{hasMark, atomicMark, markAt}
 use Rattle.relation_links.specs.Linked.{linkedBy}
@@ -27,9 +27,10 @@ unfoldable pub remoteLinked : ℕ → Kind → ℕ → ℕ → ℕ → ℕ → �
 remoteLinked marks kind p first processors role a =
     anyBelow processors (λ q. eqb a (numberFrom first kind (RV q)) && linkedBy marks p (RV q) (roleNumbered role))
 
--- a is the LV of the instruction, a semaphore, and linked
-unfoldable pub secondLinked : ℕ → Kind → ℕ → ℕ → ℕ → ℕ → Bool
-secondLinked marks kind p first role a = isSemaphore kind && (linkedBy marks p LV (roleNumbered role) && eqb a (first + 1))
+-- a is an operation of the instruction before the RVs, and linked
+unfoldable pub localLinked : ℕ → Kind → ℕ → ℕ → ℕ → ℕ → Bool
+localLinked marks kind p first role a =
+    anyBelow (remotesAt kind) (λ place. linkedBy marks p (getD (kindRow kind .beforeRemotes) place F) (roleNumbered role) && eqb a (first + place))
 
 -- a is an operation of the instruction, and linked
 unfoldable pub linkedFrom : ℕ → Kind → ℕ → ℕ → ℕ → ℕ → ℕ → Bool

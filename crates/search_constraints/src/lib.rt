@@ -12,13 +12,12 @@ ghost use Rattle.search_sets.specs.Set.{holds};
 ghost use Rattle.base.specs.Below.{anyBelow};
 ghost use Rattle.search_admit.specs.Rows.{awaitedBy};
 ghost use Rattle.relation_links.specs.Linked.{linkedBy};
-ghost use Rattle.search_constraints.specs.Rows.{isRemote, partnerOf, remoteLinked, secondLinked, linkedFrom, linkedOf, storesToLineBy};
+ghost use Rattle.search_constraints.specs.Rows.{isRemote, partnerOf, remoteLinked, localLinked, linkedFrom, linkedOf, storesToLineBy};
 use record_decoded::kind::Kind;
-use record_decoded::kind::ROLE_LV;
 use record_decoded::kind::ROLE_R;
 use record_decoded::kind::ROLE_RV;
 use record_decoded::kind::Role;
-use record_decoded::kind::is_semaphore;
+use record_decoded::kind::before_remotes;
 use record_decoded::kind::is_store;
 use record_decoded::kind::kind_of;
 use record_decoded::kind::number_of;
@@ -97,17 +96,19 @@ fn is_unlinked(marks: u16, role: u8) -> bool
     }
 }
 
-// A set, with the LV of a semaphore, its second operation, where some rule links it to an operation with a role.
-fn with_second(set: Set, marks: u16, kind: Kind, processor: u8, first: OperationNo, role: u8) -> Set
+// A set, with the operations of an instruction before the RVs that some rule links to an operation with a role.
+fn with_local(set: Set, marks: u16, kind: Kind, processor: u8, first: OperationNo, role: u8) -> Set
     requires { ⌜ first .0 < 65536 ⌝ }
-    ensures { λ r. ⌜ ((a : ℕ) → a < 128 → holds (r .lo) (r .hi) a ≡ (holds (set .lo) (set .hi) a || secondLinked marks (meant kind) processor (first .0) role a)) ⌝ }
+    ensures { λ r. ⌜ ((a : ℕ) → a < 128 → holds (r .lo) (r .hi) a ≡ (holds (set .lo) (set .hi) a || localLinked marks (meant kind) processor (first .0) role a)) ⌝ }
 {
-    if !is_semaphore(kind) {
-        return set;
+    let n = before_remotes(kind);
+    let from = first.0;
+    let mut more = set;
+    for place in 0..n {
+        let linked = is_linked(marks, processor, role_of(kind, place as u8), role);
+        more = insert_if(more, from + place, linked);
     }
-    let linked = is_linked(marks, processor, ROLE_LV, role);
-    let second = first.0 + 1;
-    insert_if(set, second, linked)
+    more
 }
 
 // A set, with the operations of an instruction that some rule links to an operation with a role, by the marks of the two instructions.
@@ -126,13 +127,11 @@ fn with_linked(
     if is_unlinked(marks, role) {
         return set;
     }
-    let linked = is_linked(marks, processor, role_of(kind, 0), role);
-    let by_first = insert_if(set, first.0, linked);
+    let local = with_local(set, marks, kind, processor, first, role);
     if !is_store(kind) {
-        return by_first;
+        return local;
     }
-    let by_second = with_second(by_first, marks, kind, processor, first, role);
-    with_remotes(by_second, marks, processor, kind, first, processors, role)
+    with_remotes(local, marks, processor, kind, first, processors, role)
 }
 
 // The operations that must stand before one of instruction w with a role, by the kinds, first operations and processors of n instructions.
