@@ -10,7 +10,7 @@
  *   first question answered 'no'. Then no lent byte has changed.
  * - Nothing is kept between calls, so calls on different arrays may be made at the same time.
  * - Nothing is taken from the heap. What a call needs of the stack does not depend on the record; measured and rounded up:
- *   oglindesh_check 16 KB, oglindesh_judge 16 KB, oglindesh_search 64 KB, oglindesh_chains 48 KB.
+ *   oglindesh_check 16 KB, oglindesh_judge 20 KB, oglindesh_search 64 KB, oglindesh_chains 48 KB.
  */
 #ifndef OGLINDESH_H
 #define OGLINDESH_H
@@ -44,7 +44,7 @@ extern "C" {
 /* No call returns OGLINDESH_REFUSED + 10: since 0.2 a record with no instruction passes, and the number stays unused. */
 #define OGLINDESH_REFUSED_TOO_MANY_OPERATIONS (OGLINDESH_REFUSED + 11u)  /* is N at most 128? */
 #define OGLINDESH_REFUSED_TOO_MANY_PAIRS (OGLINDESH_REFUSED + 12u)       /* are there at most 40 pairs? */
-#define OGLINDESH_REFUSED_WRONG_PAIR (OGLINDESH_REFUSED + 13u)           /* ascending, in one program, no mf, not both stores? */
+#define OGLINDESH_REFUSED_WRONG_PAIR (OGLINDESH_REFUSED + 13u)           /* ascending, one program, no mf, not both (only) stores? */
 #define OGLINDESH_REFUSED_PAIRS_NOT_ASCENDING (OGLINDESH_REFUSED + 14u)  /* is the pair above the one before it? */
 #define OGLINDESH_REFUSED_BYTES_LEFT (OGLINDESH_REFUSED + 15u)           /* does the record end here? */
 #define OGLINDESH_REFUSED_SEMAPHORE_NOT_WB (OGLINDESH_REFUSED + 26u)     /* is a semaphore's line WB? asked after question 8 */

@@ -29,7 +29,7 @@ const CALLS: [Call; 4] = [
     },
     Call {
         name: "oglindesh_judge",
-        needs: 16,
+        needs: 20,
         run: |case| assert_eq!(judge(&case.record, &case.order), Ok(Judgement::Legal)),
     },
     Call {

@@ -7,7 +7,7 @@ use record_reader::reader::Answer;
 use relation_chain_table::TableAnswer;
 use search_call::call::SearchAnswer;
 
-// Whether a record passes questions 1 to 15: 0, or 256 + the first question that fails.
+// Whether a record passes questions 1 to 15 and 26: 0, or 256 + the first question that fails.
 #[no_mangle]
 pub extern "C" fn oglindesh_check(bytes: &[u8]) -> u32
     ensures { λ r. ⌜ r ≡ checkNumber (readAll (now (bytes .entry))) ⌝ }

@@ -6,7 +6,7 @@ use mathlib.Core.List.{List}
 use borrow.Author.Tests.{ne-eqb}
 use Rattle.model.specs.Execution.{Instruction}
 use Rattle.relation_marks.specs.Marks.{hasMark}
-use Rattle.judge_rules.specs.Tests.{ownTurned, remoteTurned, releaseSplit, bypassed, interrupted, pairBroken}
+use Rattle.judge_rules.specs.Tests.{ownTurned, remoteTurned, releaseSplit, bypassed, semaphoreSplit, pairBroken}
 
 module _ (places : List ℕ) (rule m N P : ℕ) (v w : Instruction) where
   as-rule : (k : ℕ) → rule ≡ k → pairBroken places k m N P v w ≡ pairBroken places rule m N P v w
@@ -28,7 +28,7 @@ module _ (places : List ℕ) (rule m N P : ℕ) (v w : Instruction) where
   unfolding pairBroken
   rule14-is e = as-rule 14 e
 
-  pub rule16-is : rule ≡ 16 → (hasMark m 1024 && interrupted places v w) ≡ pairBroken places rule m N P v w
+  pub rule16-is : rule ≡ 16 → (hasMark m 1024 && semaphoreSplit places v w) ≡ pairBroken places rule m N P v w
   unfolding pairBroken
   rule16-is e = as-rule 16 e
 

@@ -1,4 +1,4 @@
--- The tests of rules 1 to 8 and 13 over tables say what the rules say.
+-- The tests of rules 1 to 8, 13 and 15 over tables say what the rules say.
 use Prim.Native.Nat.{ℕ, _<_}
 use mathlib.Core.Path.{_≡_, sym, ap, ap₂, _∙_}
 use mathlib.Core.Bool.{Bool, _&&_, and-comm}
@@ -55,7 +55,7 @@ module _ {bytes : List ℕ} {x : Execution} {t : Operations} {marks : List (List
         (λ q. ap (λ (k : ℕ). getD (x .instructions .processors) k 0) q))
         ∙ and-comm (before xs b a) (linkOf e rule (operationAt (x .instructions) t a) (operationAt (x .instructions) t b))
 
-    -- rules 1 to 8 and 13
+    -- rules 1 to 8, 13 and 15
     pub links-mean : linksBroken places rule (t .count) (t .owners) (t .roles) (x .instructions .processors) marks ≡ any (broken xs) (map must (linksOf e (linkOf e rule)))
     unfolding linksBroken tableOf operationAt
     links-mean =

@@ -1,4 +1,4 @@
--- The tests of rules 9, 10, 12 and 14 over tables say what the rules say.
+-- The tests of rules 9, 10, 12, 14 and 16 over tables say what the rules say.
 use Prim.Native.Nat.{ℕ, _<_}
 use mathlib.Core.Path.{_≡_, refl, sym, ap, ap₂, _∙_}
 use mathlib.Core.Bool.{Bool, true, false, not, _&&_, and-assoc}
@@ -21,7 +21,7 @@ use Rattle.relation_places.specs.Places.{Placed, beforeBy}
 use Rattle.relation_places.proofs.PlaceLaws.{before-placed}
 use Rattle.relation_marks.specs.Marks.{hasMark, markAt, marksOf, marksBetween}
 use Rattle.relation_links.specs.declared.operations.Operations.{Operations}
-use Rattle.judge_rules.specs.Tests.{remoteBefore, ownTurned, remoteTurned, releaseSplitBy, releaseSplit, bypassed, interrupted, pairBroken, pairsBroken}
+use Rattle.judge_rules.specs.Tests.{remoteBefore, ownTurned, remoteTurned, releaseSplitBy, releaseSplit, bypassed, semaphoreSplit, pairBroken, pairsBroken}
 use Rattle.relation_links.specs.Compiled.{CompiledIn}
 
 -- the order of the tests of rule 12
@@ -142,9 +142,9 @@ module _ (bytes : List ℕ) (x : Execution) where
         exposed w l = inUC e w && (eqb (w .processor) (l .processor) && overlap w l)
 
     pub rule16-means : (N : ℕ) → pairsBroken places 16 (x .instructions) marks N (x .processors) ≡ any (broken xs) (rule16 e)
-    unfolding rule16 pairBroken interrupted semaphores stores marksOf broken
+    unfolding rule16 pairBroken semaphoreSplit semaphores stores marksOf broken
     rule16-means N =
-        arm 16 N (x .processors) (λ m i j. hasMark m 1024 && interrupted places (instruction i) (instruction j)) (λ i j. refl)
+        arm 16 N (x .processors) (λ m i j. hasMark m 1024 && semaphoreSplit places (instruction i) (instruction j)) (λ i j. refl)
         ∙ sym (any-for (broken xs) (semaphores e) _
         ∙ any-same _ _ (semaphores e) (λ s m. any-for (broken xs) (stores e) _ ∙ any-same _ _ (stores e) (λ w k. any-when (broken xs) (another s w) _ ∙ ap (λ (u : Bool). another s w && u) (any-one (broken xs) _)))
         ∙ pairs-by-number (λ i. isSemaphore (i .kind)) (λ i. isStore (i .kind))
@@ -153,8 +153,8 @@ module _ (bytes : List ℕ) (x : Execution) where
         ap (λ (u : Bool). isSemaphore (instruction i .kind) && (isStore (instruction j .kind) && (another (instruction i) (instruction j) && u)))
         (ap₂ _&&_ (before-placed p (numberOf (instruction i) R) (numberOf (instruction j) (RV (instruction i .processor))))
         (before-placed p (numberOf (instruction j) (RV (instruction i .processor))) (RV-own (instruction i))))
-        ∙ four (isSemaphore (instruction i .kind)) (isStore (instruction j .kind)) (another (instruction i) (instruction j)) (interrupted places (instruction i) (instruction j))
-        ∙ ap (λ (u : Bool). u && interrupted places (instruction i) (instruction j)) (sym (bit-is 10 i j a b)))))
+        ∙ four (isSemaphore (instruction i .kind)) (isStore (instruction j .kind)) (another (instruction i) (instruction j)) (semaphoreSplit places (instruction i) (instruction j))
+        ∙ ap (λ (u : Bool). u && semaphoreSplit places (instruction i) (instruction j)) (sym (bit-is 10 i j a b)))))
       where
         another : model.Instruction → model.Instruction → Bool
         another s w = not (eqb (s .number) (w .number)) && overlap s w

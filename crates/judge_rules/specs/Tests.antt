@@ -11,7 +11,7 @@ use Rattle.record_decoded.specs.Kinds.{roleNumbered}
 use Rattle.record_decoded.specs.Decoded.{instructionAt}
 use Rattle.record_decoded.specs.declared.types.Instructions.{Instructions}
 use Rattle.relation_places.specs.Places.{beforeBy}
-use Rattle.relation_marks.specs.Marks.{hasMark, conflictMark, bypassMark, atomicMark, lockMark, markAt}
+use Rattle.relation_marks.specs.Marks.{hasMark, conflictMark, bypassMark, atomicMark, semaphoreMark, markAt}
 use Rattle.relation_links.specs.Links.{linkBy}
 
 module _ (places : List ℕ) where
@@ -46,8 +46,8 @@ module _ (places : List ℕ) where
   bypassed v w = beforeBy places (numberOf v LV) (numberOf w R) && beforeBy places (numberOf w R) (RV-own v)
 
   -- 16: R of v, then the RV of w to its processor, then its own RV
-  unfoldable pub interrupted : Instruction → Instruction → Bool
-  interrupted v w =
+  unfoldable pub semaphoreSplit : Instruction → Instruction → Bool
+  semaphoreSplit v w =
       beforeBy places (numberOf v R) (numberOf w (RV (v .processor))) && beforeBy places (numberOf w (RV (v .processor))) (RV-own v)
 
   -- the two break the rule, by their marks m
@@ -57,7 +57,7 @@ module _ (places : List ℕ) where
       (cond (eqb rule 10) (hasMark m conflictMark && remoteTurned P v w)
       (cond (eqb rule 12) (hasMark m atomicMark && releaseSplit N P v)
       (cond (eqb rule 14) (hasMark m bypassMark && bypassed v w)
-      (cond (eqb rule 16) (hasMark m lockMark && interrupted v w) false))))
+      (cond (eqb rule 16) (hasMark m semaphoreMark && semaphoreSplit v w) false))))
 
   -- some two instructions break rule 9, 10, 12, 14 or 16
   unfoldable pub pairsBroken : ℕ → Instructions → List (List ℕ) → ℕ → ℕ → Bool

@@ -1,4 +1,4 @@
-// Rules 1 to 8 and 13: whether two operations stand against a link.
+// Rules 1 to 8, 13 and 15: whether two operations stand against a link.
 ghost use mathlib.Core.Path.{_≡_};
 ghost use Prim.Native.Nat.{ℕ, _<_, _≤_};
 ghost use lib.ListN.{getD};

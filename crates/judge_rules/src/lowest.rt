@@ -15,8 +15,10 @@ use judge_sights::sights_broken;
 use record_decoded::position::Position;
 use record_decoded::types::Execution;
 use record_decoded::types::MOST_INSTRUCTIONS;
-use relation_links::link::RULES;
 use relation_links::operations::Operations;
+
+// How many visibility rules there are.
+const RULES: u8 = 16;
 
 // No rule, or the lowest, by its number.
 pub enum Lowest {

@@ -5,7 +5,7 @@ ghost use Rattle.base.specs.Below.{anyBelow};
 ghost use Rattle.model.specs.Rules.{RV-own};
 ghost use Rattle.record_decoded.specs.Decoded.{instructionAt};
 ghost use Rattle.relation_marks.specs.Marks.{markAt};
-ghost use Rattle.judge_rules.specs.Tests.{remoteBefore, ownTurned, remoteTurned, releaseSplitBy, releaseSplit, bypassed, interrupted, pairBroken, pairsBroken};
+ghost use Rattle.judge_rules.specs.Tests.{remoteBefore, ownTurned, remoteTurned, releaseSplitBy, releaseSplit, bypassed, semaphoreSplit, pairBroken, pairsBroken};
 use record_decoded::kind::Role;
 use record_decoded::number::number_at;
 use record_decoded::position::Position;
@@ -17,7 +17,7 @@ use record_decoded::types::wide;
 use relation_marks::table::ATOMIC;
 use relation_marks::table::BYPASS;
 use relation_marks::table::CONFLICT;
-use relation_marks::table::LOCK;
+use relation_marks::table::SEMAPHORE;
 use relation_marks::table::both;
 use relation_marks::table::either;
 use relation_marks::table::has_mark;
@@ -156,14 +156,14 @@ fn bypassed(
 }
 
 // Rule 16: R of v, then the RV of w to its processor, then its own RV.
-fn interrupted(
+fn semaphore_split(
     places: &[u8; Position::LIMIT],
     is: Instructions,
     v: InstructionNo,
     w: InstructionNo,
 ) -> bool
     requires { ⌜ (v .0 < 40) × (w .0 < 40) ⌝ }
-    ensures { λ r. ⌜ r ≡ interrupted (now (places .entry)) (instructionAt is (v .0)) (instructionAt is (w .0)) ⌝ }
+    ensures { λ r. ⌜ r ≡ semaphoreSplit (now (places .entry)) (instructionAt is (v .0)) (instructionAt is (w .0)) ⌝ }
 {
     let processors = is.processors;
     let at = v.0;
@@ -217,8 +217,8 @@ fn pair_broken(
             }
         }
         16 => {
-            if has_mark(marks, LOCK) {
-                interrupted(places, is, v, w)
+            if has_mark(marks, SEMAPHORE) {
+                semaphore_split(places, is, v, w)
             } else {
                 false
             }

@@ -37,6 +37,14 @@ unfolding overlap
 one-byte i j a h k = any-member (accesses j) (in-reach i a h) k
 
 -- an instruction of an accepted record accesses bytes of one line only
+none : (size : ℕ) → member (0 ∷ []) size ≡ true → size ≡ 0
+unfolding member
+none size m = by (eqb 0 size) refl m
+  where
+    by : (b : Bool) → eqb 0 size ≡ b → (b || false) ≡ true → size ≡ 0
+    by true e k = sym (eqb-true 0 size e)
+    by false e k = clash k refl
+
 sizes : (size : ℕ) → member (1 ∷ 2 ∷ 4 ∷ 8 ∷ []) size ≡ true → (size ≡ 1) ⊎ (size ≡ 2) ⊎ (size ≡ 4) ⊎ (size ≡ 8)
 unfolding member
 sizes size h = go (eqb 1 size) refl (eqb 2 size) refl (eqb 4 size) refl (eqb 8 size) refl h
@@ -74,13 +82,6 @@ within {processors} {lines} {i} s a h = go (isFence (i .kind)) (s .size-passed) 
         → cond f (eqb (i .address) 0) (eqb (i .address % i .size) 0 && leb (i .address + i .size) (8 * lines)) ≡ true
         → i .address ≤ a → a < i .address + i .size → Within lines i a
     go true m d l r = absurd (omega (arith, none (i .size) m))
-      where
-        none : (size : ℕ) → member (0 ∷ []) size ≡ true → size ≡ 0
-        none size m = by (eqb 0 size) refl m
-          where
-            by : (b : Bool) → eqb 0 size ≡ b → (b || false) ≡ true → size ≡ 0
-            by true e k = sym (eqb-true 0 size e)
-            by false e k = clash k refl
     go false m d l r =
         let (d1, d2) = and-parts (eqb (i .address % i .size) 0) (leb (i .address + i .size) (8 * lines)) d in
         let (one, few) = aligned (i .address) (i .size) a (sizes (i .size) m) d1 l r in
@@ -97,13 +98,6 @@ pub fits-line : {processors lines : ℕ} {i : Instruction} → Sound processors 
 unfolding question7 question8 member
 fits-line {processors} {lines} {i} s = go (isFence (i .kind)) (s .size-passed) (s .address-passed)
   where
-    none : (size : ℕ) → member (0 ∷ []) size ≡ true → size ≡ 0
-    none size m = by (eqb 0 size) refl m
-      where
-        by : (b : Bool) → eqb 0 size ≡ b → (b || false) ≡ true → size ≡ 0
-        by true e k = sym (eqb-true 0 size e)
-        by false e k = clash k refl
-
     go : (f : Bool) → member (cond f (0 ∷ []) (1 ∷ 2 ∷ 4 ∷ 8 ∷ [])) (i .size) ≡ true
         → cond f (eqb (i .address) 0) (eqb (i .address % i .size) 0 && leb (i .address + i .size) (8 * lines)) ≡ true → i .address % 8 + i .size ≤ 8
     go true m d = omega (arith, none (i .size) m, eqb-true (i .address) 0 d)

@@ -76,12 +76,6 @@ remotes-at mf = refl
 remotes-at sem-acq = refl
 remotes-at sem-rel = refl
 
-pub one-before-remotes : (k : Kind) → isSemaphore k ≡ false → remotesAt k ≡ 1
-one-before-remotes k h = remotes-at k ∙ ap (λ (b : Bool). cond b 2 1) h
-
-pub two-before-remotes : (k : Kind) → isSemaphore k ≡ true → remotesAt k ≡ 2
-two-before-remotes k h = remotes-at k ∙ ap (λ (b : Bool). cond b 2 1) h
-
 pub some-before-remotes : (k : Kind) → (1 ≤ remotesAt k) × (remotesAt k ≤ 2)
 some-before-remotes k = go (isSemaphore k) (remotes-at k)
   where

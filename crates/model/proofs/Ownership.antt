@@ -133,7 +133,7 @@ module _ (e : Execution) where
       LV-differ {q} hq h =
           stores-differ (LV-role (e .processors) (v .kind) (is-store mv .1)) (RV-role (e .processors) (w .kind) q hq (is-store mw .1)) h
 
-    -- nor do a load and a store
+    -- nor is an R an RV
     pub R-differ : {l w : Instruction} → List·Memᴰ l (loads e) → List·Memᴰ w (stores e) → {q : ℕ} → q < e .processors → numberOf l R ≡ numberOf w (RV q) → ⊥
     R-differ {l} {w} ml mw {q} hq h =
         let (il, kl) = is-load ml in

@@ -1,4 +1,5 @@
--- The program-order rules as a table of five kinds against five, earlier kind by row, later kind by column. (Document 02, P3, gives each semaphore a row and a column.)
+-- The program-order rules as a table of five kinds against five, earlier kind by row, later kind by column. (A semaphore takes another
+-- kind's row and column: `kindRow`.)
 use Prim.Native.Nat.{ℕ}
 use mathlib.Core.List.{List, [], _∷_}
 use lib.ListN.{getD}

@@ -12,7 +12,7 @@ use Rattle.model.specs.RequestTable.{nothing}
 abbrev refused : List ℕ → ℕ → Row
 refused bytes q = judged-no bytes [] q
 
--- a record with an instruction passes questions 1 to 15: it is its empty order that is refused
+-- a record with an instruction passes questions 1 to 15 and 26: it is its empty order that is refused
 abbrev passes : List ℕ → Row
 passes bytes = judged-no bytes [] 16
 

@@ -172,7 +172,7 @@ readLines = do
 unfoldable pub seenOf : Kind → ℕ → List ℕ → List ℕ
 seenOf k size bytes = cond (isLoad k) (take size bytes) []
 
--- where the bytes written begin
+-- where the bytes written begin: in a semaphore behind the eight seen
 abbrev pub writtenFrom : Kind → ℕ
 writtenFrom k = cond (isSemaphore k) 8 0
 

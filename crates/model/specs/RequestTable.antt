@@ -113,15 +113,22 @@ requestTable =
     ∷ judged (one-pair (sem-rel x 0 1 ∷ st y 1 ∷ [])) (0 ∷ 3 ∷ 1 ∷ 2 ∷ 4 ∷ []) legal
     ∷ judged (one-pair (sem-rel x 0 1 ∷ sem-acq y 0 1 ∷ [])) (3 ∷ 0 ∷ 1 ∷ 2 ∷ 4 ∷ 5 ∷ []) (breaks 8)
     ∷ judged (one-pair (sem-rel x 0 1 ∷ sem-acq y 0 1 ∷ [])) (0 ∷ 3 ∷ 4 ∷ 5 ∷ 1 ∷ 2 ∷ []) legal
+    -- P3, rules 9 and 10: a semaphore is among the stores
+    ∷ judged (two wb wb (st x 1 ∷ sem-acq x 1 2 ∷ []) []) (0 ∷ 3 ∷ 4 ∷ 5 ∷ 1 ∷ 2 ∷ 6 ∷ []) (breaks 9)
+    ∷ judged (two wb wb (st x 1 ∷ sem-acq x 1 2 ∷ []) []) (0 ∷ 1 ∷ 3 ∷ 4 ∷ 5 ∷ 6 ∷ 2 ∷ []) (breaks 10)
+    -- P3, rule 11: another load sees what the semaphore wrote, not what it saw
+    ∷ judged (two wb wb (sem-acq x 0 7 ∷ []) (ld x 7 ∷ [])) (0 ∷ 1 ∷ 2 ∷ 3 ∷ 4 ∷ []) legal
+    ∷ judged (two wb wb (sem-acq x 0 7 ∷ []) (ld x 0 ∷ [])) (0 ∷ 1 ∷ 2 ∷ 3 ∷ 4 ∷ []) (breaks 11)
     -- P3, rule 12: for the releasing kind, never for the acquiring one
     ∷ judged (two wb wb (sem-rel x 0 1 ∷ []) (ld y 0 ∷ [])) (0 ∷ 1 ∷ 2 ∷ 4 ∷ 3 ∷ []) (breaks 12)
     ∷ judged (two wb wb (sem-acq x 0 1 ∷ []) (ld y 0 ∷ [])) (0 ∷ 1 ∷ 2 ∷ 4 ∷ 3 ∷ []) legal
-    -- P3, rule 16: no RV_p of another overlapping store between R and RV_p, by anyone; another processor's RV of it is free, and so is a store to other bytes
+    -- P3, rule 16: no RV_p of another overlapping store between R and RV_p, by anyone; its RV to another processor is free, and so is a store to other bytes
     ∷ judged (two wb wb (sem-acq x 0 1 ∷ []) (st x 2 ∷ [])) (0 ∷ 1 ∷ 4 ∷ 6 ∷ 5 ∷ 2 ∷ 3 ∷ []) (breaks 16)
     ∷ judged (two wb wb (sem-acq x 0 1 ∷ []) (st x 2 ∷ [])) (0 ∷ 1 ∷ 4 ∷ 2 ∷ 3 ∷ 6 ∷ 5 ∷ []) legal
     ∷ judged (two wb wb (sem-acq x 0 1 ∷ []) (st 1 2 ∷ [])) (0 ∷ 1 ∷ 4 ∷ 6 ∷ 5 ∷ 2 ∷ 3 ∷ []) legal
     ∷ judged (two wb wb (st x 2 ∷ []) (sem-acq x 2 1 ∷ [])) (0 ∷ 1 ∷ 2 ∷ 3 ∷ 4 ∷ 6 ∷ 5 ∷ []) legal
-    -- P3: a lock taken by two processors, both seeing 0; a lock handed over with its data; the chain table has rule 15
+    ∷ judged (two wb wb (st x 1 ∷ sem-acq x 1 2 ∷ []) []) (0 ∷ 1 ∷ 3 ∷ 2 ∷ 4 ∷ 5 ∷ 6 ∷ []) legal
+    -- P3: a lock taken by two processors, both seeing 0; a lock taken and released by one; the chain table has rule 15
     ∷ searched (two wb wb (sem-acq x 0 1 ∷ []) (sem-acq x 0 1 ∷ [])) [] 1000 forbidden 50 []
     ∷ searched (alone (sem-acq x 0 1 ∷ sem-rel x 1 0 ∷ [])) [] 1000 allowed 6 (0 ∷ 1 ∷ 2 ∷ 3 ∷ 4 ∷ 5 ∷ [])
     ∷ tabled (alone (sem-acq x 0 1 ∷ [])) (0 ∷ 1 ∷ 1 ∷ 0 ∷ 0 ∷ 1 ∷ 0 ∷ 0 ∷ 0 ∷ [])

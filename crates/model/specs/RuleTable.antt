@@ -96,7 +96,7 @@ ruleTable =
     ∷ judged (halves 5 7) (0 ∷ 1 ∷ 2 ∷ 4 ∷ 3 ∷ []) legal
     ∷ judged (halves 5 6) (0 ∷ 1 ∷ 2 ∷ 4 ∷ 3 ∷ []) (breaks 11)
     ∷ judged (halves 6 7) (0 ∷ 1 ∷ 2 ∷ 3 ∷ 4 ∷ []) (breaks 11)
-    -- 12: a st.rel to WB is seen by all as one block; a plain store, and a st.rel to UC or WC, is not
+    -- 12: a release to WB is seen by all as one block; a plain store, and a st.rel to UC or WC, is not
     ∷ judged (two wb wb (st-rel x 1 ∷ []) (ld y 0 ∷ [])) (0 ∷ 1 ∷ 3 ∷ 2 ∷ []) (breaks 12)
     ∷ judged (two wb wb (st-rel x 1 ∷ []) (ld y 0 ∷ [])) (0 ∷ 3 ∷ 1 ∷ 2 ∷ []) legal
     ∷ judged (two wb wb (st x 1 ∷ []) (ld y 0 ∷ [])) (0 ∷ 1 ∷ 3 ∷ 2 ∷ []) legal
@@ -152,7 +152,7 @@ ruleTable =
       accepted = true;
       refused = true;
     })
-    -- the chain table, by each rule of 1 to 8 and 13
+    -- the chain table, by each rule of 1 to 8 and 13 (15: `RequestTable`)
     ∷ tabled k1 (0 ∷ 1 ∷ 1 ∷ 0 ∷ 0 ∷ 0 ∷ 0 ∷ 0 ∷ 0 ∷ [])
     ∷ tabled (two wb wb (st x 1 ∷ []) []) (0 ∷ 1 ∷ 1 ∷ 0 ∷ 0 ∷ 1 ∷ 0 ∷ 0 ∷ 0 ∷ [])
     ∷ tabled (one wb wb (ld-acq x 0 ∷ ld y 0 ∷ [])) (0 ∷ 1 ∷ 0 ∷ 0 ∷ [])

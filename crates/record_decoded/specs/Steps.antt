@@ -35,17 +35,20 @@ pub record Answered {A : Type 0} (walk : Found A) (part : List ℕ) (at size : �
   pub long : (n : ℕ) → asked ≡ Pass n → n ≡ size
   pub ends : (n : ℕ) → asked ≡ Pass n → at + n ≤ length part
 
--- the bytes of an instruction from `at` on, by its kind
-abbrev pub entryAt : List ℕ → ℕ → List ℕ
-entryAt part at = take (entryLength + moreLength (kindOf (getD part at 0))) (drop at part)
+-- how many bytes the instruction at `at` has, by its kind, and these bytes
+abbrev pub entryLengthAt : List ℕ → ℕ → ℕ
+entryLengthAt part at = entryLength + moreLength (kindOf (getD part at 0))
 
--- they end within the part, and their size is at most 8
+abbrev pub entryAt : List ℕ → ℕ → List ℕ
+entryAt part at = take (entryLengthAt part at) (drop at part)
+
+-- they end within the part, and the size that they give is at most 8
 abbrev pub EntryThere : List ℕ → ℕ → Type 0
-EntryThere part at = (at + (entryLength + moreLength (kindOf (getD part at 0))) ≤ length part) × (getD part (at + 2) 0 ≤ 8)
+EntryThere part at = (at + entryLengthAt part at ≤ length part) × (getD part (at + 2) 0 ≤ 8)
 
 -- The questions of the instruction at `at`. One that passes has a size of at most 8.
 pub record EntryAnswered (processors : ℕ) (lines : List Attribute) (p : ℕ) (done : List Instruction) (part : List ℕ) (at : ℕ) (asked : Asked) : Type 0 where
-  pub answered : Answered (readInstruction processors lines p done (drop at part)) part at (entryLength + moreLength (kindOf (getD part at 0))) asked
+  pub answered : Answered (readInstruction processors lines p done (drop at part)) part at (entryLengthAt part at) asked
       (instructionOf processors p done (entryAt part at))
   pub small : (n : ℕ) → asked ≡ Pass n → getD part (at + 2) 0 ≤ 8
 

@@ -5,8 +5,8 @@ ghost use lib.ListN.{length, getD};
 ghost use Rattle.model.specs.Execution.{F, kindOf, kindRow, attributeOf, isLoad, isStore, isSemaphore, isOnlyStore, isRelease, isFence, roles, remotesAt, numberFrom};
 ghost use Rattle.model.specs.Questions.{question4, writtenFrom};
 ghost use Rattle.record_decoded.specs.Kinds.{meant, RowNumber, roleMeant, roleProcessor, roleNumbered, attributeMeant};
-use crate::types::MORE_LENGTH;
 use crate::types::OperationNo;
+use crate::types::VALUE_LENGTH;
 use crate::types::wide16;
 
 pub enum Kind {
@@ -147,7 +147,7 @@ pub fn is_only_store(k: Kind) -> bool
 pub fn written_from(k: Kind) -> usize
     ensures { λ r. ⌜ (r ≡ writtenFrom (meant k)) × (r ≤ 8) ⌝ }
 {
-    if is_semaphore(k) { MORE_LENGTH } else { 0 }
+    if is_semaphore(k) { VALUE_LENGTH } else { 0 }
 }
 
 pub fn is_release(k: Kind) -> bool

@@ -9,8 +9,8 @@ pub const LINE_LENGTH: usize = 9;
 
 pub const ENTRY_LENGTH: usize = 11;
 
-// The bytes that a semaphore has more.
-pub const MORE_LENGTH: usize = 8;
+// The data bytes of one value. A semaphore's entry has those of a second one, the value written, behind the others.
+pub const VALUE_LENGTH: usize = 8;
 
 pub const PAIR_LENGTH: usize = 2;
 

@@ -25,9 +25,9 @@ use record_decoded::types::DATA_STRIDE;
 use record_decoded::types::ENTRY_LENGTH;
 use record_decoded::types::Instructions;
 use record_decoded::types::Lines;
-use record_decoded::types::MORE_LENGTH;
 use record_decoded::types::MOST_INSTRUCTIONS;
 use record_decoded::types::Step;
+use record_decoded::types::VALUE_LENGTH;
 use record_decoded::types::copy_bytes;
 use record_decoded::types::wide;
 
@@ -83,7 +83,7 @@ fn line_passes(lines: Lines, k: Kind, address: u8) -> bool
 fn more_length(k: Kind) -> usize
     ensures { λ r. ⌜ (r ≡ moreLength (meant k)) × (r ≤ 8) ⌝ }
 {
-    if is_semaphore(k) { MORE_LENGTH } else { 0 }
+    if is_semaphore(k) { VALUE_LENGTH } else { 0 }
 }
 
 // Question 8, of a size that passes question 7.
@@ -130,8 +130,8 @@ fn data_passes(part: &[u8], from: usize, more: usize, size: usize) -> bool
     requires { ⌜ from + (8 + more) ≤ length (now part) ⌝ }
     ensures { λ r. ⌜ r ≡ question9 size (take (8 + more) (drop from (now (part .entry)))) ⌝ }
 {
-    if spare_zero(part, from, 8, size) {
-        spare_zero(part, from + 8, more, size)
+    if spare_zero(part, from, VALUE_LENGTH, size) {
+        spare_zero(part, from + VALUE_LENGTH, more, size)
     } else {
         false
     }
@@ -197,7 +197,7 @@ fn with_instruction(
     addresses[i] = part[at + 1];
     sizes[i] = part[at + 2];
     firsts[i] = first as u16;
-    let data = 8 + more_length(kind);
+    let data = VALUE_LENGTH + more_length(kind);
     copy_bytes(&mut bytes, DATA_STRIDE * i, part, at + 3, data);
     let count = i + 1;
     let operations = first + operation_count(kind, processors);

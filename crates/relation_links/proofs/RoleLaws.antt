@@ -3,14 +3,11 @@ use Prim.Native.Nat.{ℕ, zero, suc, _+_, _-_, _<_, _≤_}
 use native.Mathlib.Omega.{arith}
 use native.Mathlib.Decide.{decLt}
 use mathlib.Core.Path.{_≡_, refl, sym, ap, _∙_}
-use mathlib.Core.Bool.{Bool, true, false, _&&_}
-use mathlib.Core.List.{List, [], _∷_}
-use lib.ListN.{getD, List·getD-eq-default}
-use lib.Dec.{eqb, ltb}
-use Rattle.base.specs.Lists.{all}
-use Rattle.base.proofs.Bools.{agree, and-parts}
-use Rattle.base.proofs.Lists.{getD-there}
-use borrow.Author.Tests.{eq-eqb, eqb-true, ne-eqb, ltb-true}
+use mathlib.Core.Bool.{Bool, false, _&&_}
+use lib.ListN.{List·getD-eq-default}
+use lib.Dec.{eqb}
+use Rattle.base.proofs.Bools.{agree}
+use borrow.Author.Tests.{eq-eqb, eqb-true, ne-eqb}
 use Rattle.model.specs.Execution.{Role, hasRoleR, hasRoleLV, hasRoleRV}
 use Rattle.model.specs.Rules.{sameVisibility}
 use Rattle.record_decoded.specs.Kinds.{roleNumbered}

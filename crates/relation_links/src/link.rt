@@ -79,9 +79,6 @@ fn is_same_visibility(a: u8, b: u8) -> bool
     }
 }
 
-// How many visibility rules there are.
-pub const RULES: u8 = 16;
-
 // The mark that a rule asks for; rules without a link ask for SAME.
 pub fn rule_mark(rule: u8) -> u16
     ensures { λ r. ⌜ (r ≡ ruleMark rule) × (0 < r) ⌝ }

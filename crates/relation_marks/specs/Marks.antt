@@ -34,8 +34,8 @@ abbrev pub atomicMark : ℕ
 atomicMark = 512
 
 -- the mark of rule 16, and those that the first and that the second is a semaphore
-abbrev pub lockMark : ℕ
-lockMark = 1024
+abbrev pub semaphoreMark : ℕ
+semaphoreMark = 1024
 
 abbrev pub firstSemaphoreMark : ℕ
 firstSemaphoreMark = 2048
@@ -52,7 +52,7 @@ unfoldable pub givenPair : List (ℕ × ℕ) → ℕ → ℕ → Bool
 givenPair pairs m n = any (λ p. eqb (p .0) m && eqb (p .1) n) pairs
 
 -- The marks in the order of their bits: one instruction; rules 2, 3 and 4 by the kinds; a shared byte; a dependence pair; rule 13: UC memory of one domain;
--- rules 9 and 10: conflicting stores; rule 14: a UC store and an overlapping load of its processor; rule 12: one st.rel to WB; rule 16: a semaphore and another
+-- rules 9 and 10: conflicting stores; rule 14: a UC store and an overlapping load of its processor; rule 12: one release to WB; rule 16: a semaphore and another
 -- overlapping store; the first is a semaphore, and the second is one.
 unfoldable pub marksOf : Execution → Instruction → Instruction → List Bool
 marksOf e i j =

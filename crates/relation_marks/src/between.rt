@@ -67,7 +67,7 @@ fn semaphore_marks(same: bool, overlaps: bool, first: Kind, second: Kind) -> u16
     with_mark(with_mark(with_mark(0, is_second), is_first), lock)
 }
 
-// The marks of conflicting stores, of a UC store and an overlapping load of its processor, and of one st.rel to WB, below others.
+// The marks of conflicting stores, of a UC store and an overlapping load of its processor, and of one release to WB, below others.
 fn memory_marks(
     above: u16,
     same: bool,

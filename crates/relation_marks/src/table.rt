@@ -10,7 +10,7 @@ use record_decoded::kind::table_row;
 use record_decoded::types::wide;
 
 // The marks: one instruction; rules 2, 3 and 4 by the kinds; a shared byte; a dependence pair; UC memory of one domain; conflicting stores; a UC store and an
-// overlapping load of its processor; one st.rel to WB; a semaphore and another overlapping store; the first is a semaphore; the second is one.
+// overlapping load of its processor; one release to WB; a semaphore and another overlapping store; the first is a semaphore; the second is one.
 pub const SAME: u16 = 1;
 
 pub const ACQUIRE: u16 = 2;
@@ -31,7 +31,7 @@ pub const BYPASS: u16 = 256;
 
 pub const ATOMIC: u16 = 512;
 
-pub const LOCK: u16 = 1024;
+pub const SEMAPHORE: u16 = 1024;
 
 pub const FIRST_SEMAPHORE: u16 = 2048;
 

@@ -42,7 +42,7 @@ module _ (rows : List ℕ) where
   abbrev pub precedes : ℕ → ℕ → Bool
   precedes x a = setBy rows 0 x a
 
-  -- a is an RV of the st.rel to WB that x is an RV of
+  -- a is an RV of the release to WB that x is an RV of
   abbrev pub partnerBy : ℕ → ℕ → Bool
   partnerBy x a = setBy rows 2 x a
 
@@ -84,7 +84,7 @@ module _ (rows : List ℕ) where
   abbrev pub localOf : ℕ → ℕ
   localOf x = field rows 16 x
 
-  -- the R of x's semaphore; of an operation that writes for none itself
+  -- the R of the semaphore that x is an LV or an RV of; of another operation itself
   abbrev pub readOf : ℕ → ℕ
   readOf x = field rows 17 x
 
@@ -112,7 +112,7 @@ wordsAfter rows xs = wordsFrom rows firstWords xs
 
 -- What the rows hold of an execution
 
--- an st.rel to WB of which o is an RV, and so is a
+-- a release to WB of which o is an RV, and so is a
 unfoldable pub partner : List ℕ → Execution → ℕ → ℕ → Bool
 partner bytes x o a =
     any (λ w. isRelease (w .kind) && inWB (executionOf bytes x) w && (member (remoteOf (executionOf bytes x) w) o && member (remoteOf (executionOf bytes x) w) a)) (stores (executionOf bytes x))
@@ -144,7 +144,7 @@ abbrev pub writes : ℕ → Bool
 writes role = eqb role 1 || leb 3 role
 
 -- The operation for which one with a role may have to wait because of an instruction, by the marks of the two: of a conflicting store the RV to the same
--- processor, for an R the own RV of a UC store. The instruction is given by its kind, the number of its first operation and its processor.
+-- processor (so of a semaphore by rule 16, which question 26 has on WB), for an R the own RV of a UC store. The instruction is given by its kind, the number of its first operation and its processor.
 unfoldable pub awaitedBy : ℕ → ℕ → Kind → ℕ → ℕ → ℕ → Bool
 awaitedBy marks role kind first processor a =
     cond (eqb role 0) (hasMark marks bypassMark && eqb a (numberFrom first kind (RV processor)))

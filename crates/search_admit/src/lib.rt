@@ -179,7 +179,7 @@ fn pending_bits(rows: &[u64; TABLE], stand: Set, missing: Set) -> u64
     bits
 }
 
-// The bits that the R x reads from what its own processor wrote. Mostly no store is missing, so that is asked first.
+// The bits that the R x reads from what its own processor wrote. Mostly no store is missing, so that is asked first. (Of a semaphore's R its own store always is.)
 fn local_bits(rows: &[u64; TABLE], stand: Set, x: OperationNo) -> u64
     requires { ⌜ x .0 < 128 ⌝ }
     ensures { λ r. ⌜ ((i : ℕ) → bit r i ≡ localBit (now (rows .entry)) (stand .lo) (stand .hi) (x .0) i) ⌝ }

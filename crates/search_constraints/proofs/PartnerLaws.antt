@@ -1,4 +1,4 @@
--- Which operations are RVs of one st.rel to WB.
+-- Which operations are RVs of one release to WB.
 use Prim.Native.Nat.{ℕ, _-_, zero, suc, _≤_, _<_}
 use native.Mathlib.Omega.{arith}
 use mathlib.Core.Path.{_≡_, refl, sym, ap, _∙_, subst}
@@ -65,7 +65,7 @@ module _ {bytes : List ℕ} {x : Execution} {t : Operations} {marks : List (List
     abbrev owner : Instruction
     owner = instructionAt (x .instructions) (getD (t .owners) o 0)
 
-    -- the mark of an st.rel to WB
+    -- the mark of a release to WB
     atomic : hasMark (markAt marks (getD (t .owners) o 0) (getD (t .owners) o 0)) 512 ≡ (isStore (owner .kind) && (isRelease (owner .kind) && inWB (executionOf bytes x) owner))
     unfolding marksBetween marksOf
     atomic =
@@ -96,7 +96,7 @@ module _ {bytes : List ℕ} {x : Execution} {t : Operations} {marks : List (List
       atomicWith w =
           isRelease (w .kind) && inWB (executionOf bytes x) w && (member (remoteOf (executionOf bytes x) w) o && member (remoteOf (executionOf bytes x) w) a)
 
-      -- by the tables: o's instruction is an st.rel to WB, and o one of its RVs
+      -- by the tables: o's instruction is a release to WB, and o one of its RVs
       tables-say : byTables ≡ true → partner bytes x o a ≡ true
       unfolding partnerOf partner
       tables-say k =
@@ -112,7 +112,7 @@ module _ {bytes : List ℕ} {x : Execution} {t : Operations} {marks : List (List
           (and-both (subst (λ (b : ℕ). member (remoteOf (executionOf bytes x) owner) b ≡ true) n (in-remotes (executionOf bytes x) owner q l))
           (sym (same-remotes a) ∙ k3)))
 
-      -- by the rules: an st.rel to WB that has o among its RVs is o's instruction
+      -- by the rules: a release to WB that has o among its RVs is o's instruction
       rules-say : partner bytes x o a ≡ true → byTables ≡ true
       unfolding partnerOf partner stores
       rules-say k =

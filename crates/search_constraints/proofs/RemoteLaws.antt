@@ -5,7 +5,7 @@ use mathlib.Core.Path.{_≡_, refl, sym, ap, ap₂, _∙_}
 use mathlib.Core.Bool.{Bool, true, false, not, _&&_, _||_, and-true, and-false, or-false}
 use lib.ListN.{length, getD}
 use lib.Dec.{eqb, leb, ltb}
-use borrow.Author.Tests.{eq-eqb, ne-eqb, eqb-true, eqb-false, le-leb, leb-true, lt-ltb, ltb-true, ltb-false}
+use borrow.Author.Tests.{eq-eqb, ne-eqb, eqb-true, le-leb, leb-true, lt-ltb, ltb-true, ltb-false}
 use Rattle.base.specs.Below.{anyBelow}
 use Rattle.base.proofs.Tests.{any-passes, any-below-same, some-at}
 use Rattle.base.proofs.Bools.{agree, split, clash, is-false, and-parts, and-both, or-cases, or-left, or-right}

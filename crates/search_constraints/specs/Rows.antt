@@ -16,7 +16,7 @@ use Rattle.relation_links.specs.Linked.{linkedBy}
 unfoldable pub isRemote : Kind → ℕ → ℕ → ℕ → Bool
 isRemote kind first processors a = anyBelow processors (λ q. eqb a (numberFrom first kind (RV q)))
 
--- an operation with a role is an RV of an st.rel to WB, by the marks of its instruction, and a is one of the RVs
+-- an operation with a role is an RV of a release to WB, by the marks of its instruction, and a is one of the RVs
 unfoldable pub partnerOf : ℕ → ℕ → Kind → ℕ → ℕ → ℕ → Bool
 partnerOf marks role kind first processors a = not (ltb role 3) && (hasMark marks atomicMark && isRemote kind first processors a)
 

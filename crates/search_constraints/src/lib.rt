@@ -168,7 +168,7 @@ pub fn preds_at<'a>(
     set
 }
 
-// The RVs of the st.rel to WB that an operation with a role is an RV of, by the marks of its instruction; of another operation none.
+// The RVs of the release to WB that an operation with a role is an RV of, by the marks of its instruction; of another operation none.
 pub fn partners_at(marks: u16, role: u8, kind: Kind, first: OperationNo, processors: usize) -> Set
     requires { ⌜ (first .0 < 65536) × (processors ≤ 8) ⌝ }
     ensures { λ r. ⌜ ((a : ℕ) → a < 128 → holds (r .lo) (r .hi) a ≡ partnerOf marks role (meant kind) (first .0) processors a) ⌝ }

@@ -30,7 +30,7 @@ use Rattle.model.proofs.Uninterrupted.{semaphore-WB}
 use Rattle.search_meaning.proofs.Tables.{Tables, TablesMean}
 use Rattle.search_meaning.proofs.Owners.{number-is, numbered-in}
 use Rattle.search_meaning.proofs.OperationRows.{RV-writes, IsRV, is-RV, own-by, local-by, own-itself, local-itself}
-use Rattle.search_meaning.proofs.Refusals.{missingBy, storeLost, lockLost, loadLost, refusesBy, refusedBy}
+use Rattle.search_meaning.proofs.Refusals.{missingBy, storeLost, semaphoreLost, loadLost, refusesBy, refusedBy}
 use Rattle.search_meaning.proofs.Demands.{conflict-mark, bypass-mark, store-in, remote-few, load-refusal, store-refusal}
 
 -- what an RV may wait for, by the two stores
@@ -110,10 +110,10 @@ none-locked places m own e = ap (λ (k : ℕ). missingBy places m && (own && ltb
     go false true = refl
     go false false = refl
 
-lock-same : (places : List ℕ) (q : ℕ) (v : Instruction) (m : ℕ) → m ≡ numberOf v (RV q) → {r : ℕ} → r ≡ cond (isSemaphore (v .kind)) (numberOf v R) m
-    → (missingBy places m && (eqb (RV-own v) m && ltb (placed places r) 255)) ≡ lockLost places q v
-unfolding lockLost
-lock-same places q v m em {r} er = split (isSemaphore (v .kind))
+semaphore-same : (places : List ℕ) (q : ℕ) (v : Instruction) (m : ℕ) → m ≡ numberOf v (RV q) → {r : ℕ} → r ≡ cond (isSemaphore (v .kind)) (numberOf v R) m
+    → (missingBy places m && (eqb (RV-own v) m && ltb (placed places r) 255)) ≡ semaphoreLost places q v
+unfolding semaphoreLost
+semaphore-same places q v m em {r} er = split (isSemaphore (v .kind))
     (λ k. go k (er ∙ rw k) (ℕ-discrete q (v .processor)))
     (λ k. none-locked places m (eqb (RV-own v) m) (er ∙ rw k) ∙ rw k (sym (and-false (eqb q (v .processor)))))
   where
@@ -200,13 +200,13 @@ module _ {t : Tables} (h : TablesMean t) (accepted : Accepted (executionOf (t .b
     pub awaited-low : m < 128
     awaited-low = small m (remote .low)
 
-    pub store-waits : waits m ≡ (storeLost places (roleNumber - 3) (instruction v) (instruction owner) || lockLost places (roleNumber - 3) (instruction v))
+    pub store-waits : waits m ≡ (storeLost places (roleNumber - 3) (instruction v) (instruction owner) || semaphoreLost places (roleNumber - 3) (instruction v))
     store-waits =
         waits-is m awaited-low (remote .own) (own-by h accepted x low (RV-writes roleNumber few)) (remote .local) (local-by h accepted x low (RV-writes roleNumber few))
         ∙ ap₂ _||_
         (store-same places (roleNumber - 3) (instruction v) (instruction owner) m x at
         (sym (number-is h accepted x low) ∙ ap (numberOf (instruction owner)) (role-RV roleNumber few)))
-        (lock-same places (roleNumber - 3) (instruction v) m at (remote .read))
+        (semaphore-same places (roleNumber - 3) (instruction v) m at (remote .read))
 
   -- x is an R: a UC store
   module _ (v : ℕ) (lv : v < t .execution .instructions .count) (reads : roleNumber ≡ 0) (marked : hasMark (markAt (t .marks) v owner) 256 ≡ true) (m : ℕ)

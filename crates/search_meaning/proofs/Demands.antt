@@ -29,11 +29,11 @@ use Rattle.relation_places.specs.Places.{placed, beforeBy, Placed}
 use Rattle.relation_places.proofs.PlaceLaws.{before-placed, member-placed}
 use Rattle.relation_marks.specs.Marks.{hasMark, markAt, marksOf, marksBetween}
 use Rattle.relation_links.proofs.CompiledLaws.{owner-there}
-use Rattle.search_reduction.specs.Admits.{ownDemands, remoteDemands, bypassDemands, lockDemands, missing, lost}
+use Rattle.search_reduction.specs.Admits.{ownDemands, remoteDemands, bypassDemands, semaphoreDemands, missing, lost}
 use Rattle.search_reduction.proofs.Pairs.{pair-passes, passing-pair}
 use Rattle.model.proofs.Ownership.{is-store, is-load, is-semaphore, semaphore-store, store-processor, processor-in, in-processors}
 use Rattle.search_meaning.proofs.Tables.{Tables, TablesMean}
-use Rattle.search_meaning.proofs.Refusals.{missingBy, storeLost, lockLost, loadLost, refusesBy, refusedBy}
+use Rattle.search_meaning.proofs.Refusals.{missingBy, storeLost, semaphoreLost, loadLost, refusesBy, refusedBy}
 use Rattle.search_meaning.proofs.Owners.{role-in, number-is, owner-is, by-number, numbered-in}
 
 module _ {t : Tables} (h : TablesMean t) (accepted : Accepted (executionOf (t .bytes) (t .execution))) (x : ℕ) (low : x < operations (executionOf (t .bytes) (t .execution)))
@@ -86,7 +86,7 @@ module _ {t : Tables} (h : TablesMean t) (accepted : Accepted (executionOf (t .b
   pub store-refusal : (v : ℕ) → (roleNumber ≡ 0 → ⊥) → 3 ≤ roleNumber
       → refusal v
       ≡ (hasMark (markAt (t .marks) v owner) 128
-      && (storeLost places (roleNumber - 3) (instruction v) (instruction owner) || lockLost places (roleNumber - 3) (instruction v)))
+      && (storeLost places (roleNumber - 3) (instruction v) (instruction owner) || semaphoreLost places (roleNumber - 3) (instruction v)))
   unfolding refusesBy
   store-refusal v q l = rw (ne-eqb roleNumber 0 q, le-leb 3 roleNumber l) refl
 
@@ -100,11 +100,11 @@ module _ {t : Tables} (h : TablesMean t) (accepted : Accepted (executionOf (t .b
   abbrev bypass : Bool
   bypass = any (lost e x xs) (bypassDemands e x)
 
-  abbrev lock : Bool
-  lock = any (lost e x xs) (lockDemands e x)
+  abbrev semaphore : Bool
+  semaphore = any (lost e x xs) (semaphoreDemands e x)
 
   abbrev demanded : Bool
-  demanded = own || remote || bypass || lock
+  demanded = own || remote || bypass || semaphore
 
   -- a store and a load are kept in their lists
   pub store-in : (v : ℕ) → v < t .execution .instructions .count → isStore (instruction v .kind) ≡ true → List·Memᴰ (instruction v) (stores e)
@@ -124,7 +124,7 @@ module _ {t : Tables} (h : TablesMean t) (accepted : Accepted (executionOf (t .b
 
   -- x is the RV to q of store w, and store v refuses it
   store-refuses : (v w : Instruction) (q : ℕ) → List·Memᴰ v (stores e) → List·Memᴰ w (stores e) → q < e .processors → x ≡ numberOf w (RV q) → conflict e v w ≡ true
-      → (storeLost places q v w || lockLost places q v) ≡ true → is-refused ≡ true
+      → (storeLost places q v w || semaphoreLost places q v) ≡ true → is-refused ≡ true
   store-refuses v w q mv mw few at c k =
       let (iw, sw) = is-store e mw in
       let (iv, sv) = is-store e mv in
@@ -138,8 +138,8 @@ module _ {t : Tables} (h : TablesMean t) (accepted : Accepted (executionOf (t .b
           let number = number-RV roleNumber q (sym role) in
           refuses-it i l (store-refusal i (λ z. omega arith) (omega arith)
           ∙ and-both (conflict-mark i l ∙ and-both (and-both (ap (λ (u : Instruction). isStore (u .kind)) (sym vi) ∙ sv) (ap (λ (u : Instruction). isStore (u .kind)) (sym wo) ∙ sw)) (ap₂ (conflict e) (sym vi) (sym wo) ∙ c))
-          (ap (λ (j : ℕ). storeLost places j (instruction i) (instruction owner) || lockLost places j (instruction i)) (let z : roleNumber - 3 ≡ q = omega arith in z)
-          ∙ ap₂ (λ (a b : Instruction). storeLost places q a b || lockLost places q a) (sym vi) (sym wo) ∙ k))
+          (ap (λ (j : ℕ). storeLost places j (instruction i) (instruction owner) || semaphoreLost places j (instruction i)) (let z : roleNumber - 3 ≡ q = omega arith in z)
+          ∙ ap₂ (λ (a b : Instruction). storeLost places q a b || semaphoreLost places q a) (sym vi) (sym wo) ∙ k))
 
   -- the two ways to be lost
   own-lost : (v w : Instruction) → v .processor ≡ w .processor → before xs (numberOf v LV) (numberOf w LV) ≡ true → missing e x xs (RV-own v) ≡ true
@@ -196,7 +196,7 @@ module _ {t : Tables} (h : TablesMean t) (accepted : Accepted (executionOf (t .b
           let (c3, c4) = and-parts (eqb (v .processor) (w .processor)) (eqb x (RV-own w)) c2 in
           let (k1, k2) = and-parts (before xs (numberOf v LV) (numberOf w LV)) (missing e x xs (RV-own v)) k in
           store-refuses v w (w .processor) mv mw (store-processor e accepted mw) (eqb-true x (RV-own w) c4) c1
-          (ap (λ (u : Bool). u || lockLost places (w .processor) v) (own-lost v w (eqb-true (v .processor) (w .processor) c3) k1 k2))
+          (ap (λ (u : Bool). u || semaphoreLost places (w .processor) v) (own-lost v w (eqb-true (v .processor) (w .processor) c3) k1 k2))
 
   -- rule 10
   remote-refused : any (lost e x xs) (remoteDemands e x) ≡ true → is-refused ≡ true
@@ -212,7 +212,7 @@ module _ {t : Tables} (h : TablesMean t) (accepted : Accepted (executionOf (t .b
           let (a, b) = and-parts (eqb x (numberOf w (RV q))) (any (lost e x xs) ((RV-own v, RV-own w, numberOf v (RV q)) ∷ []))
           (sym (any-when (lost e x xs) (eqb x (numberOf w (RV q))) ((RV-own v, RV-own w, numberOf v (RV q)) ∷ [])) ∙ k) in
           let (k1, k2) = and-parts (before xs (RV-own v) (RV-own w)) (missing e x xs (numberOf v (RV q))) (sym (any-one (lost e x xs) (RV-own v, RV-own w, numberOf v (RV q))) ∙ b) in
-          store-refuses v w q mv mw (in-processors e mq) (eqb-true x (numberOf w (RV q)) a) c (ap (λ (u : Bool). u || lockLost places q v) (remote-lost v w q k1 k2))
+          store-refuses v w q mv mw (in-processors e mq) (eqb-true x (numberOf w (RV q)) a) c (ap (λ (u : Bool). u || semaphoreLost places q v) (remote-lost v w q k1 k2))
 
   -- rule 14
   load-lost : (w : Instruction) → loadLost places w ≡ (before xs (numberOf w LV) x && missing e x xs (RV-own w))
@@ -240,9 +240,9 @@ module _ {t : Tables} (h : TablesMean t) (accepted : Accepted (executionOf (t .b
           (ap (λ (u : Instruction). loadLost places u) (sym wi) ∙ load-lost w ∙ k))
 
   -- rule 16
-  lock-lost : (s : Instruction) → isSemaphore (s .kind) ≡ true → lockLost places (s .processor) s ≡ (before xs (numberOf s R) x && missing e x xs (RV-own s))
-  unfolding lockLost
-  lock-lost s k =
+  semaphore-lost : (s : Instruction) → isSemaphore (s .kind) ≡ true → semaphoreLost places (s .processor) s ≡ (before xs (numberOf s R) x && missing e x xs (RV-own s))
+  unfolding semaphoreLost
+  semaphore-lost s k =
       rw (eq-eqb (s .processor) (s .processor) refl, k)
       (ap₂ _&&_ (sym (member-placed p (numberOf s R)) ∙ sym (before-absent xs (numberOf s R) x new)) (missing-at (RV-own s)))
 
@@ -250,23 +250,23 @@ module _ {t : Tables} (h : TablesMean t) (accepted : Accepted (executionOf (t .b
   another s w = not (eqb (s .number) (w .number)) && overlap s w
 
   -- a semaphore and another overlapping store are both to WB
-  lock-conflict : {s w : Instruction} → List·Memᴰ s (semaphores e) → List·Memᴰ w (stores e) → another s w ≡ true → conflict e s w ≡ true
+  semaphore-conflict : {s w : Instruction} → List·Memᴰ s (semaphores e) → List·Memᴰ w (stores e) → another s w ≡ true → conflict e s w ≡ true
   unfolding overlap conflict
-  lock-conflict {s} {w} ms mw c =
+  semaphore-conflict {s} {w} ms mw c =
       let (other, shared) = and-parts (not (eqb (s .number) (w .number))) (overlap s w) c in
       let (b, mb, there) = any-witness (accesses w) (addresses s) shared in
       let wb = semaphore-WB e accepted ms in
       and-both c (rw (wb, sym (one-line e accepted (is-semaphore e ms .0) (is-store e mw .0) b (of-reach s b mb) there) ∙ wb))
 
-  lock-refused : any (lost e x xs) (lockDemands e x) ≡ true → is-refused ≡ true
-  unfolding lockDemands
-  lock-refused d =
+  semaphore-refused : any (lost e x xs) (semaphoreDemands e x) ≡ true → is-refused ≡ true
+  unfolding semaphoreDemands
+  semaphore-refused d =
       let (s, ms, w, mw, c, k) = passing-pair (lost e x xs) (semaphores e) (stores e) (λ s w. another s w && eqb x (numberOf w (RV (s .processor)))) (λ s w. (numberOf s R, x, RV-own s) ∷ []) d in
       let (c1, c2) = and-parts (another s w) (eqb x (numberOf w (RV (s .processor)))) c in
       let found = semaphore-store e ms in
-      store-refuses s w (s .processor) found mw (store-processor e accepted found) (eqb-true x (numberOf w (RV (s .processor))) c2) (lock-conflict ms mw c1)
-      (or-right (storeLost places (s .processor) s w) (lockLost places (s .processor) s)
-      (lock-lost s (is-semaphore e ms .1) ∙ sym (any-one (lost e x xs) (numberOf s R, x, RV-own s)) ∙ k))
+      store-refuses s w (s .processor) found mw (store-processor e accepted found) (eqb-true x (numberOf w (RV (s .processor))) c2) (semaphore-conflict ms mw c1)
+      (or-right (storeLost places (s .processor) s w) (semaphoreLost places (s .processor) s)
+      (semaphore-lost s (is-semaphore e ms .1) ∙ sym (any-one (lost e x xs) (numberOf s R, x, RV-own s)) ∙ k))
 
   -- x as an operation of its instruction
   x-is : (r : Role) → roleNumbered roleNumber ≡ r → eqb x (numberOf (instruction owner) r) ≡ true
@@ -294,10 +294,10 @@ module _ {t : Tables} (h : TablesMean t) (accepted : Accepted (executionOf (t .b
       let (sv, sw) = and-parts (isStore (instruction v .kind)) (isStore (instruction owner .kind)) m1 in
       (store-in v l sv, store-in owner owner-low sw, c)
 
-  lock-demanded : (v : ℕ) → v < t .execution .instructions .count → 3 ≤ roleNumber → hasMark (markAt (t .marks) v owner) 128 ≡ true
-      → lockLost places (roleNumber - 3) (instruction v) ≡ true → any (lost e x xs) (lockDemands e x) ≡ true
-  unfolding lockDemands lockLost conflict semaphores
-  lock-demanded v l few m k =
+  semaphore-demanded : (v : ℕ) → v < t .execution .instructions .count → 3 ≤ roleNumber → hasMark (markAt (t .marks) v owner) 128 ≡ true
+      → semaphoreLost places (roleNumber - 3) (instruction v) ≡ true → any (lost e x xs) (semaphoreDemands e x) ≡ true
+  unfolding semaphoreDemands semaphoreLost conflict semaphores
+  semaphore-demanded v l few m k =
       let s = instruction v in
       let (mv, mw, c) = in-conflict v l m in
       let (k1, k2) = and-parts (eqb (roleNumber - 3) (s .processor)) (isSemaphore (s .kind) && (ltb (placed places (numberOf s R)) 255 && missingBy places (RV-own s))) k in
@@ -306,7 +306,7 @@ module _ {t : Tables} (h : TablesMean t) (accepted : Accepted (executionOf (t .b
       pair-passes (lost e x xs) (semaphores e) (stores e) (λ s w. another s w && eqb x (numberOf w (RV (s .processor)))) (λ s w. (numberOf s R, x, RV-own s) ∷ [])
       (in-keep (λ i. isSemaphore (i .kind)) (numbered-in t v l) k3) mw
       (and-both (and-parts (another s (instruction owner)) _ c .0) (x-is (RV (s .processor)) (role-RV roleNumber few ∙ ap RV own)))
-      (any-one (lost e x xs) (numberOf s R, x, RV-own s) ∙ sym (lock-lost s k3) ∙ and-both (eq-eqb (s .processor) (s .processor) refl) (and-both k3 k4))
+      (any-one (lost e x xs) (numberOf s R, x, RV-own s) ∙ sym (semaphore-lost s k3) ∙ and-both (eq-eqb (s .processor) (s .processor) refl) (and-both k3 k4))
 
   store-demanded : (v : ℕ) → v < t .execution .instructions .count → 3 ≤ roleNumber → hasMark (markAt (t .marks) v owner) 128 ≡ true
       → storeLost places (roleNumber - 3) (instruction v) (instruction owner) ≡ true
@@ -343,19 +343,19 @@ module _ {t : Tables} (h : TablesMean t) (accepted : Accepted (executionOf (t .b
   refused-demanded r =
       let (v, l, k) = some-at refusal (t .execution .instructions .count) r in
       split (eqb roleNumber 0)
-      (λ z. or-left (own || remote || bypass) lock (or-right (own || remote) bypass (bypass-demanded v l (eqb-true roleNumber 0 z) k)))
+      (λ z. or-left (own || remote || bypass) semaphore (or-right (own || remote) bypass (bypass-demanded v l (eqb-true roleNumber 0 z) k)))
       (λ z. split (leb 3 roleNumber)
       (λ s.
       let few = leb-true 3 roleNumber s in
       let (m, k1) = and-parts (hasMark (markAt (t .marks) v owner) 128) _ (sym (store-refusal v (λ q. clash (eq-eqb roleNumber 0 q) z) few) ∙ k) in
-      or-cases (storeLost places (roleNumber - 3) (instruction v) (instruction owner)) (lockLost places (roleNumber - 3) (instruction v)) k1
-      (λ u. or-left (own || remote || bypass) lock (or-left (own || remote) bypass (store-demanded v l few m u)))
-      (λ u. or-right (own || remote || bypass) lock (lock-demanded v l few m u)))
+      or-cases (storeLost places (roleNumber - 3) (instruction v) (instruction owner)) (semaphoreLost places (roleNumber - 3) (instruction v)) k1
+      (λ u. or-left (own || remote || bypass) semaphore (or-left (own || remote) bypass (store-demanded v l few m u)))
+      (λ u. or-right (own || remote || bypass) semaphore (semaphore-demanded v l few m u)))
       (λ s. clash k (rw (z, s) refl)))
 
   pub refused-is : refusedBy places (t .execution .instructions) (t .operations) (t .marks) x ≡ demanded
   refused-is =
       agree (refusedBy places (t .execution .instructions) (t .operations) (t .marks) x) demanded refused-demanded
-      (λ d. or-cases (own || remote || bypass) lock d
+      (λ d. or-cases (own || remote || bypass) semaphore d
       (λ d. or-cases (own || remote) bypass d (λ d. or-cases own remote d own-refused remote-refused) bypass-refused)
-      lock-refused)
+      semaphore-refused)

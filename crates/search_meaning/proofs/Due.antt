@@ -1,4 +1,4 @@
--- Rule 12: what may follow while an st.rel to WB is open, by the partners of the last entry.
+-- Rule 12: what may follow while a release to WB is open, by the partners of the last entry.
 use Prim.Native.Nat.{ℕ, _<_}
 use native.Mathlib.Omega.{arith}
 use mathlib.Core.Path.{_≡_, refl, sym, ap, _∙_, subst}
@@ -42,7 +42,7 @@ last-stands ys o = member-append ys o o ∙ or-right (member ys o) (eqb o o) (eq
 last-new : (n : ℕ) (ys : List ℕ) (o : ℕ) → distinct n [] (ys ++ (o ∷ [])) ≡ true → (o < n) × (member ys o ≡ false)
 last-new n ys o h = let (low, new) = distinct-entry n ys o [] h in (low, not-true (member ys o) new)
 
--- an st.rel to WB
+-- a release to WB
 abbrev opens : model.Execution → Instruction → Bool
 opens e w = isRelease (w .kind) && inWB e w
 
@@ -75,7 +75,7 @@ module _ (e : model.Execution) where
       (in-keep (λ o. not (member (remoteOf e w) o)) (in-below (operations e) o low) (ap not none)) (List·Memᴰ·head refl)))))
       (kept e xs consists rule12-in)
 
-  -- where an st.rel to WB is open, the last entry is one of its RV
+  -- where a release to WB is open, the last entry is one of its RV
   last-in : (ys : List ℕ) (o : ℕ) → consistent e (ys ++ (o ∷ [])) ≡ true → o < operations e → member ys o ≡ false
       → {w : Instruction} {a c : ℕ} → List·Memᴰ w (stores e) → opens e w ≡ true → List·Memᴰ a (remoteOf e w) → List·Memᴰ c (remoteOf e w)
       → member (ys ++ (o ∷ [])) a ≡ true → member (ys ++ (o ∷ [])) c ≡ false → List·Memᴰ o (remoteOf e w)
@@ -89,7 +89,7 @@ module _ (e : model.Execution) where
       (and-both (before-stays ys o a o (before-absent ys a o different ∙ sooner)) (before-absent (ys ++ (o ∷ [])) o c misses ∙ last-stands ys o))
       (rule12-kept (ys ++ (o ∷ [])) consists mw release ma mc low f))
 
-  -- x interrupts an st.rel to WB: it is no RV, one stands, one is missing
+  -- x interrupts a release to WB: it is no RV, one stands, one is missing
   module _ (x : ℕ) (xs : List ℕ) (w : Instruction) where
     of-interrupts : interrupts e x xs w ≡ true
         → (opens e w ≡ true) × (member (remoteOf e w) x ≡ false) × (a : ℕ) × List·Memᴰ a (remoteOf e w) × (member xs a ≡ true)
@@ -122,7 +122,7 @@ module _ {t : Tables} (h : TablesMean t) (accepted : Accepted (executionOf (t .b
       let (q, lq, k) = RV-of e w ma in
       omega (arith, number-low h (RV-in e mw q lq), k)
 
-  -- partners are RV of one st.rel to WB
+  -- partners are RV of one release to WB
   partner-of : (o a : ℕ) → o < n → a < 128 → partnerBy (t .rows) o a ≡ true
       → (w : Instruction) × List·Memᴰ w (stores e) × (opens e w ≡ true) × List·Memᴰ o (remoteOf e w) × List·Memᴰ a (remoteOf e w)
   unfolding partner
@@ -132,7 +132,7 @@ module _ {t : Tables} (h : TablesMean t) (accepted : Accepted (executionOf (t .b
       let (mo, ma) = and-parts (member (remoteOf e w) o) (member (remoteOf e w) a) both in
       (w, mw, release, member-in (remoteOf e w) o mo, member-in (remoteOf e w) a ma)
 
-  -- and RV of one st.rel to WB are partners
+  -- and RV of one release to WB are partners
   of-partner : {o a : ℕ} {w : Instruction} → List·Memᴰ w (stores e) → opens e w ≡ true → List·Memᴰ o (remoteOf e w) → List·Memᴰ a (remoteOf e w)
       → partnerBy (t .rows) o a ≡ true
   unfolding partner
@@ -165,7 +165,7 @@ module _ {t : Tables} (h : TablesMean t) (accepted : Accepted (executionOf (t .b
     unfolding dueOf
     due-last = rw (last-more ys o, lt-ltb o 128 (omega (arith, accepted .operations-few)))
 
-    -- x interrupts an open st.rel to WB: a partner of the last entry is missing, and x is no partner
+    -- x interrupts an open release to WB: a partner of the last entry is missing, and x is no partner
     refuses : open-one ≡ true → (allBelow 128 stands || partnerBy (t .rows) o x) ≡ false
     refuses s =
         let (w, mw, k) = any-witness (interrupts e x xs) (stores e) s in

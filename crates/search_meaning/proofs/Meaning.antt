@@ -11,7 +11,7 @@ use Rattle.model.specs.Rules.{linked, linksOf, consistent}
 use Rattle.model.specs.Accepted.{Accepted}
 use Rattle.record_decoded.specs.Decoded.{executionOf}
 use Rattle.relation_places.specs.Places.{Placed}
-use Rattle.search_reduction.specs.Admits.{ownDemands, remoteDemands, bypassDemands, lockDemands, sights, unready, interrupts, lost, unseen, admits}
+use Rattle.search_reduction.specs.Admits.{ownDemands, remoteDemands, bypassDemands, semaphoreDemands, sights, unready, interrupts, lost, unseen, admits}
 use Rattle.search_reduction.proofs.Reduction.{admits-more}
 use Rattle.search_meaning.proofs.Tables.{Tables, TablesMean}
 use Rattle.search_admit.specs.Rows.{wordsAfter}
@@ -42,7 +42,7 @@ module _ {t : Tables} (h : TablesMean t) (accepted : Accepted (executionOf (t .b
       (any (lost (executionOf (t .bytes) (t .execution)) x xs) (ownDemands (executionOf (t .bytes) (t .execution)) x))
       (any (lost (executionOf (t .bytes) (t .execution)) x xs) (remoteDemands (executionOf (t .bytes) (t .execution)) x))
       (any (lost (executionOf (t .bytes) (t .execution)) x xs) (bypassDemands (executionOf (t .bytes) (t .execution)) x))
-      (any (lost (executionOf (t .bytes) (t .execution)) x xs) (lockDemands (executionOf (t .bytes) (t .execution)) x))
+      (any (lost (executionOf (t .bytes) (t .execution)) x xs) (semaphoreDemands (executionOf (t .bytes) (t .execution)) x))
       (any (unseen (executionOf (t .bytes) (t .execution)) x xs) (sights (executionOf (t .bytes) (t .execution)) x)))
     where
       sorted : (a i o r b k u : Bool) → (not i && (not a && (not (o || r || b || k) && not u))) ≡ not (a || i || o || r || b || k || u)

@@ -1,4 +1,4 @@
--- Rules 1 to 8 and 13: what must stand before an operation, by its set.
+-- Rules 1 to 8, 13 and 15: what must stand before an operation, by its set.
 use Prim.Native.Nat.{ℕ, _≤_, _<_}
 use native.Mathlib.Omega.{arith}
 use mathlib.Core.Path.{_≡_, refl, sym, ap, ap₂, _∙_}

@@ -25,8 +25,8 @@ module _ (places : List ℕ) where
       || eqb q (w .processor) && (eqb (v .processor) (w .processor) && (beforeBy places (numberOf v LV) (numberOf w LV) && missingBy (RV-own v)))
 
   -- rule 16 for the RV to q of a store: semaphore v is of processor q, and its R stands, its own RV does not
-  unfoldable pub lockLost : ℕ → Instruction → Bool
-  lockLost q v = eqb q (v .processor) && (isSemaphore (v .kind) && (ltb (placed places (numberOf v R)) 255 && missingBy (RV-own v)))
+  unfoldable pub semaphoreLost : ℕ → Instruction → Bool
+  semaphoreLost q v = eqb q (v .processor) && (isSemaphore (v .kind) && (ltb (placed places (numberOf v R)) 255 && missingBy (RV-own v)))
 
   -- rule 14 for a load: the LV of v stands, its own RV does not
   unfoldable pub loadLost : Instruction → Bool
@@ -36,7 +36,7 @@ module _ (places : List ℕ) where
   unfoldable pub refusesBy : Instructions → List (List ℕ) → ℕ → ℕ → ℕ → Bool
   refusesBy is marks role w v =
       cond (eqb role 0) (hasMark (markAt marks v w) 256 && loadLost (instructionAt is v))
-      (cond (leb 3 role) (hasMark (markAt marks v w) 128 && (storeLost (role - 3) (instructionAt is v) (instructionAt is w) || lockLost (role - 3) (instructionAt is v))) false)
+      (cond (leb 3 role) (hasMark (markAt marks v w) 128 && (storeLost (role - 3) (instructionAt is v) (instructionAt is w) || semaphoreLost (role - 3) (instructionAt is v))) false)
 
   -- some instruction refuses operation x
   unfoldable pub refusedBy : Instructions → Operations → List (List ℕ) → ℕ → Bool

@@ -12,7 +12,7 @@ use Rattle.model.specs.Execution.{Execution, Instruction, LV, R, RV, numberOf, 
 use Rattle.model.specs.Rules.{before, overlap, addresses, accesses, inUC, Writer, Sight, never, sees, RV-own, sightOf, rule11, rule14, rule16, byteOf, latest, local, byteRead, broken}
 use Rattle.model.proofs.Before.{before-absent, before-not, then}
 use Rattle.model.specs.Accepted.{Accepted}
-use Rattle.search_reduction.specs.Admits.{lastByte, missing, lost, bypassDemands, lockDemands, sights, byteNow, unseen}
+use Rattle.search_reduction.specs.Admits.{lastByte, missing, lost, bypassDemands, semaphoreDemands, sights, byteNow, unseen}
 use Rattle.search_reduction.proofs.Pairs.{pairs-same}
 use Rattle.search_reduction.proofs.Newly.{newlyBroken, newly-broken}
 use Rattle.model.proofs.Ownership.{semaphore-store, R-differ, RV-differ, store-processor, load-processor}
@@ -109,9 +109,9 @@ module _ (e : Execution) (xs : List ℕ) (x : ℕ) (new : member xs x ≡ false)
     abbrev another : Instruction → Instruction → Bool
     another s w = not (eqb (s .number) (w .number)) && overlap s w
 
-    pub lock-rule : any (newlyBroken xs x) (rule16 e) ≡ any (lost e x xs) (lockDemands e x)
-    unfolding rule16 lockDemands newlyBroken
-    lock-rule =
+    pub semaphore-rule : any (newlyBroken xs x) (rule16 e) ≡ any (lost e x xs) (semaphoreDemands e x)
+    unfolding rule16 semaphoreDemands newlyBroken
+    semaphore-rule =
         pairs-same (newlyBroken xs x) (lost e x xs) (semaphores e) (stores e)
         another (λ s w. never (numberOf s R) (numberOf w (RV (s .processor))) (RV-own s) ∷ [])
         (λ s w. another s w && eqb x (numberOf w (RV (s .processor)))) (λ s w. (numberOf s R, x, RV-own s) ∷ [])

@@ -13,7 +13,7 @@ use Rattle.search_reduction.proofs.Links.{links-split, newly-linked}
 use Rattle.search_reduction.proofs.Itself.{links-rule}
 use Rattle.search_reduction.proofs.Stores.{own-rule, remote-rule}
 use Rattle.search_reduction.proofs.Releases.{release-rule}
-use Rattle.search_reduction.proofs.Loads.{sight-rule, bypass-rule, lock-rule}
+use Rattle.search_reduction.proofs.Loads.{sight-rule, bypass-rule, semaphore-rule}
 
 or-swap : (a b c : Bool) → (a || (b || c)) ≡ (b || (a || c))
 or-swap true b c = sym (or-true b)
@@ -62,6 +62,6 @@ admits-more e accepted xs x consists new low =
       own-rule e accepted xs consists x,
       remote-rule e accepted xs consists x,
       bypass-rule e xs x new accepted,
-      lock-rule e xs x new accepted,
+      semaphore-rule e xs x new accepted,
       sight-rule e xs x new accepted,
     )

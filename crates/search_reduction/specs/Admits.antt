@@ -33,8 +33,8 @@ module _ (e : Execution) (x : ℕ) where
       when (inUC e w && (eqb (w .processor) (l .processor) && overlap w l) && eqb x (numberOf l R)) ((numberOf w LV, x, RV-own w) ∷ [])))
 
   -- rule 16: x is the RV of store w to the processor of semaphore s, which overlaps it
-  unfoldable pub lockDemands : List Demand
-  lockDemands = for (semaphores e) (λ s. for (stores e) (λ w.
+  unfoldable pub semaphoreDemands : List Demand
+  semaphoreDemands = for (semaphores e) (λ s. for (stores e) (λ w.
       when (not (eqb (s .number) (w .number)) && overlap s w && eqb x (numberOf w (RV (s .processor)))) ((numberOf s R, x, RV-own s) ∷ [])))
 
   -- rule 11: the bytes that x reads
@@ -49,7 +49,7 @@ module _ (e : Execution) (x : ℕ) where
     abbrev pub unready : Link → Bool
     unready l = eqb x (l .1) && missing (l .0)
 
-    -- rule 12: some but not all RV of the st.rel to WB stand, and x is none of them
+    -- rule 12: some but not all RV of the release to WB stand, and x is none of them
     unfoldable pub interrupts : Instruction → Bool
     interrupts w = isRelease (w .kind) && inWB e w && not (member (remoteOf e w) x) && any (member xs) (remoteOf e w) && any missing (remoteOf e w)
 
@@ -69,4 +69,4 @@ module _ (e : Execution) (x : ℕ) where
     unfoldable pub admits : Bool
     admits =
         not (any unready (linksOf e (linked e)) || any interrupts (stores e)
-        || any lost ownDemands || any lost remoteDemands || any lost bypassDemands || any lost lockDemands || any unseen sights)
+        || any lost ownDemands || any lost remoteDemands || any lost bypassDemands || any lost semaphoreDemands || any unseen sights)

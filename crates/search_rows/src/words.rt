@@ -23,7 +23,7 @@ pub struct AccessWords {
     pub written: [u64; MOST_INSTRUCTIONS],
 }
 
-// What instruction w of a kind wrote, by its first data bytes: those, but of a semaphore others.
+// The value written: for a semaphore its second one, for the others the same bytes as `seen`, which are made already.
 fn written_value(
     bytes: &[u8],
     count: usize,

@@ -117,7 +117,7 @@ fn asks(question: u8) -> &'static str {
         9 => "are data bytes past the size zero?",
         11 => "are there at most 128 operations?",
         12 => "are there at most 40 pairs?",
-        13 => "does each pair name an earlier and a later instruction of one program, no mf, not two stores?",
+        13 => "does each pair name an earlier and a later instruction of one program, no mf, not two stores (a semaphore is none here)?",
         14 => "do the pairs ascend?",
         15 => "does the record end?",
         26 => "is the semaphore's line WB?",

@@ -1,4 +1,4 @@
--- Not an RV, not of an st.rel to WB, and else the RVs of the instruction.
+-- Not an RV, not of a release to WB, and else the RVs of the instruction.
 use mathlib.Core.Path.{ap, _∙_}
 use mathlib.Core.Bool.{Bool, _||_}
 use Rattle.search_sets.proofs.Members.{holds-none}

@@ -1,7 +1,7 @@
 -- Each rule by its arm.
 use native.Mathlib.Omega.{arith}
 use mathlib.Core.Path.{_∙_}
-use Rattle.judge_rules.specs.Tests.{ownTurned, remoteTurned, releaseSplit, bypassed, interrupted}
+use Rattle.judge_rules.specs.Tests.{ownTurned, remoteTurned, releaseSplit, bypassed, semaphoreSplit}
 use Rattle.base.proofs.Bools.{kept, left-out}
 use Rattle.judge_rules.proofs.Arms.{rule9-is, rule10-is, rule12-is, rule14-is, rule16-is, other-rule}
 use borrow.Author.Needs.{needs}
@@ -36,8 +36,8 @@ bypassed-requires c κs = search needs
 has-mark-requires-5 : tie.Need-has-mark-requires-5
 has-mark-requires-5 c κs = search needs
 
-interrupted-requires : tie.Need-interrupted-requires
-interrupted-requires c κs = search needs
+semaphore-split-requires : tie.Need-semaphore-split-requires
+semaphore-split-requires c κs = search needs
 
 returns : tie.Need-returns
 returns c =
@@ -92,13 +92,13 @@ returns-9 : tie.Need-returns-9
 returns-9 c =
     let a = c .before .before .before .before .args in
     let at = instructionAt (a .is) in
-    kept (c .before .before .has-mark5 .ensures) (c .before .if5 .taken) (c .interrupted .ensures) ∙ rule16-is (a .places .now) (a .rule) (a .marks) (a .operations) (a .processors) (at (a .v .0)) (at (a .w .0)) (omega arith)
+    kept (c .before .before .has-mark5 .ensures) (c .before .if5 .taken) (c .semaphore-split .ensures) ∙ rule16-is (a .places .now) (a .rule) (a .marks) (a .operations) (a .processors) (at (a .v .0)) (at (a .w .0)) (omega arith)
 
 returns-10 : tie.Need-returns-10
 returns-10 c =
     let a = c .before .before .before .args in
     let at = instructionAt (a .is) in
-    left-out (interrupted (a .places .now) (at (a .v .0)) (at (a .w .0))) (c .before .has-mark5 .ensures) (c .if5 .left) ∙ rule16-is (a .places .now) (a .rule) (a .marks) (a .operations) (a .processors) (at (a .v .0)) (at (a .w .0)) (omega arith)
+    left-out (semaphoreSplit (a .places .now) (at (a .v .0)) (at (a .w .0))) (c .before .has-mark5 .ensures) (c .if5 .left) ∙ rule16-is (a .places .now) (a .rule) (a .marks) (a .operations) (a .processors) (at (a .v .0)) (at (a .w .0)) (omega arith)
 
 returns-11 : tie.Need-returns-11
 returns-11 c =
@@ -120,7 +120,7 @@ pair-broken-spec =
     has-mark-requires-4
     bypassed-requires
     has-mark-requires-5
-    interrupted-requires
+    semaphore-split-requires
     returns
     returns-2
     returns-3

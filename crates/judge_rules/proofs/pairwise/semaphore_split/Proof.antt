@@ -5,10 +5,10 @@ use Prim.Native.Nat.{ℕ}
 use Rattle.model.specs.Execution.{RV, numberOf}
 use Rattle.record_decoded.specs.Decoded.{instructionAt}
 use Rattle.relation_places.specs.Places.{beforeBy}
-use Rattle.judge_rules.specs.Tests.{interrupted}
+use Rattle.judge_rules.specs.Tests.{semaphoreSplit}
 use borrow.Author.Needs.{needs}
-use Rattle.judge_rules.proofs.pairwise.interrupted.Statement.{statement}
-use Rattle.judge_rules.proofs.pairwise.interrupted.Tie as tie
+use Rattle.judge_rules.proofs.pairwise.semaphore_split.Statement.{statement}
+use Rattle.judge_rules.proofs.pairwise.semaphore_split.Tie as tie
 
 array-read-wide : tie.Need-array-read-wide
 array-read-wide c = search needs
@@ -35,7 +35,7 @@ both-requires : tie.Need-both-requires
 both-requires c κs = search needs
 
 returns : tie.Need-returns
-unfolding interrupted instructionAt
+unfolding semaphoreSplit instructionAt
 returns c =
     let a = c .before .before .before .before .before .before .before .before .args in
     let is-before = beforeBy (a .places .now) in
@@ -44,8 +44,8 @@ returns c =
     ∙ ap₂ _&&_ (c .before .before .before .before2 .ensures ∙ ap₂ is-before (c .before .before .before .before .number-at2 .ensures) between)
     (c .before .before3 .ensures ∙ ap₂ is-before between (c .before .before .own-no .ensures))
 
-pub interrupted-spec : {M : Type 1} → statement M
-interrupted-spec =
+pub semaphore-split-spec : {M : Type 1} → statement M
+semaphore-split-spec =
     tie.close
     (tie.spec
     array-read-wide
