@@ -53,6 +53,15 @@ unfolding allBelow all
 all-elements p d [] = refl
 all-elements p d (x ∷ l) = all-first (λ k. p (getD (x ∷ l) k d)) (length l) ∙ ap (λ (t : Bool). p x && t) (all-elements p d l)
 
+-- a test of the numbers of `count`
+pub all-count : (p : ℕ → Bool) (from n : ℕ) → allBelow n (λ i. p (from + i)) ≡ all p (count from n)
+unfolding allBelow all count
+all-count p from zero = refl
+all-count p from (suc n) =
+    all-first (λ i. p (from + i)) n
+    ∙ ap₂ (λ (s t : Bool). s && t) (ap p (omega arith))
+    (all-same (λ i. p (from + suc i)) (λ i. p (suc from + i)) n (λ i l. ap p (omega arith)) ∙ all-count p (suc from) n)
+
 -- The invariant: the tests below i have passed.
 pub record Passed (n : ℕ) (p : ℕ → Bool) (i : ℕ) : Type 0 where
   pub within : i ≤ n

@@ -2,19 +2,19 @@
 use Prim.Native.Nat.{ℕ, zero, suc, _+_, _≤_, _<_}
 use native.Mathlib.Omega.{arith}
 use mathlib.Core.Path.{_≡_, refl, sym, ap, _∙_, subst}
-use mathlib.Core.Bool.{Bool, true, false, cond, _&&_}
+use mathlib.Core.Bool.{Bool, true, false, cond, _&&_, _||_}
 use mathlib.Core.List.{List, [], _∷_, _++_}
 use lib.ListN.{length, getD, take, drop, length-append, length-map, List·getD-append}
 use lib.Seq.{length-take-le}
-use lib.Dec.{leb}
+use lib.Dec.{eqb, leb}
 use borrow.Author.Tests.{leb-true, ltb-true}
 use Rattle.base.specs.Lists.{all}
 use Rattle.base.proofs.Bools.{split, and-parts}
 use Rattle.base.proofs.Lists.{member-in, all-member}
-use Rattle.model.specs.Execution.{Kind, kindOf, isFence, Attribute, Instruction, Execution, roles, operationCount, operations, Line}
-use Rattle.model.specs.Accepted.{Consecutive, Sound, Each, Rises, Accepted}
+use Rattle.model.specs.Execution.{Kind, ld, ld-acq, st, st-rel, mf, sem-acq, sem-rel, kindOf, isSemaphore, Attribute, Instruction, Execution, roles, operationCount, operations, Line}
+use Rattle.model.specs.Accepted.{Consecutive, Sound, SoundLines, Each, Rises, Accepted}
 use Rattle.model.specs.Calls.{says, answerOf, readAll}
-use Rattle.model.specs.Questions.{Found, no-to, found, Reader, next, item, byte, ask, many, question2, question3, question5, question7, question8, question26, question11, question12, question13, moreLength, lineAttributes, instructionOf, readLine, readLines, readInstruction, readProgram, readPrograms, readInstructions, readPair, readPairs, question15, readRecord}
+use Rattle.model.specs.Questions.{Found, no-to, found, Reader, next, item, byte, ask, many, question2, question3, question5, question7, question8, question26, question27, question11, question12, question13, moreLength, sizesOf, writtenFrom, lineAttributes, instructionOf, readLine, readLines, readInstruction, readProgram, readPrograms, readInstructions, readPair, readPairs, question15, readRecord}
 
 -- Steps of a walk that found something
 
@@ -87,18 +87,27 @@ module _ {A : Type 0} where
   each-more P [] a h k = (k, tt)
   each-more P (x ∷ l) a h k = (h .0, each-more P l a (h .1) k)
 
-pub size-small : (k : Kind) (size : ℕ) → question7 k size ≡ true → size ≤ 8
+-- the data of an entry whose size passes lie within its bytes
+pub data-within : (k : Kind) (size : ℕ) → question7 k size ≡ true → writtenFrom k + size ≤ 8 + moreLength k size
 unfolding question7 all
-size-small k size q = leb-true size 8 (split (isFence k)
-    (λ h. all-member (λ n. leb n 8) (member-in (0 ∷ []) size (rw h at q)) refl)
-    (λ h. all-member (λ n. leb n 8) (member-in (1 ∷ 2 ∷ 4 ∷ 8 ∷ []) size (rw h at q)) refl))
+data-within k size q =
+    leb-true (writtenFrom k + size) (8 + moreLength k size)
+    (all-member (λ n. leb (writtenFrom k + n) (8 + moreLength k n)) (member-in (sizesOf k) size q) (each-size k))
+  where
+    each-size : (k : Kind) → all (λ n. leb (writtenFrom k + n) (8 + moreLength k n)) (sizesOf k) ≡ true
+    each-size ld = refl
+    each-size ld-acq = refl
+    each-size st = refl
+    each-size st-rel = refl
+    each-size mf = refl
+    each-size sem-acq = refl
+    each-size sem-rel = refl
 
--- question 26 was answered 'yes'
-abbrev Passed26 : List Attribute → Instruction → Type 0
-Passed26 lines i = question26 lines (i .kind) (i .address) ≡ true
+pub more-few : (k : Kind) (size : ℕ) → moreLength k size ≤ 8
+more-few k size = split (isSemaphore k || eqb size 16) (λ h. rw h (omega arith)) (λ h. rw h (omega arith))
 
 abbrev Read : ℕ → List Attribute → List Instruction → Type 0
-Read processors lines is = Consecutive processors 0 0 is × Each (Sound processors (length lines)) is × Each (Passed26 lines) is
+Read processors lines is = Consecutive processors 0 0 is × Each (Sound processors (length lines)) is × Each (SoundLines lines) is
 
 module _ (processors : ℕ) (lines : List Attribute) where
   module _ (p : ℕ) (own : p < processors) where
@@ -111,17 +120,18 @@ module _ (processors : ℕ) (lines : List Attribute) where
       address-passed = eight;
     }
 
-    passed26 : (done : List Instruction) (x : List ℕ) → question26 lines (kindOf (getD x 0 0)) (getD x 1 0) ≡ true → Passed26 lines (instructionOf processors p done x)
+    sound-lines : (done : List Instruction) (x : List ℕ) → question26 lines (kindOf (getD x 0 0)) (getD x 1 0) ≡ true
+        → question27 lines (getD x 2 0) (getD x 1 0) ≡ true → SoundLines lines (instructionOf processors p done x)
     unfolding instructionOf
-    passed26 done x h = h
+    sound-lines done x six seven = record { semaphore-passed = six; lines-passed = seven }
 
     more : (done : List Instruction) (x : List ℕ) (i : Instruction) → Read processors lines done → instructionOf processors p done x ≡ i
-        → Sound processors (length lines) (instructionOf processors p done x) → Passed26 lines (instructionOf processors p done x)
+        → Sound processors (length lines) (instructionOf processors p done x) → SoundLines lines (instructionOf processors p done x)
         → Read processors lines (done ++ (i ∷ []))
     unfolding instructionOf
     more done x i inv e s w =
         subst (λ (j : Instruction). Read processors lines (done ++ (j ∷ []))) e
-        (consecutive-more processors 0 0 done _ (inv .0) (omega arith) (omega arith), each-more (Sound processors (length lines)) done _ (inv .1) s, each-more (Passed26 lines) done _ (inv .2) w)
+        (consecutive-more processors 0 0 done _ (inv .0) (omega arith) (omega arith), each-more (Sound processors (length lines)) done _ (inv .1) s, each-more (SoundLines lines) done _ (inv .2) w)
 
     instruction-keeps : (done : List Instruction) (bytes : List ℕ) (i : Instruction) (r : List ℕ)
         → Read processors lines done → readInstruction processors lines p done bytes ≡ found i r → Read processors lines (done ++ (i ∷ []))
@@ -130,10 +140,11 @@ module _ (processors : ℕ) (lines : List Attribute) where
         step (item 11 bytes) _ i r h (λ x b1 e1 h1.
         step (ask 6 _ b1) _ i r h1 (λ u2 b2 e2 h2.
         step (ask 7 _ b2) _ i r h2 (λ u3 b3 e3 h3.
-        step (item (moreLength (kindOf (getD x 0 0))) b3) _ i r h3 (λ y b4 e4 h4.
+        step (item (moreLength (kindOf (getD x 0 0)) (getD x 2 0)) b3) _ i r h3 (λ y b4 e4 h4.
         step (ask 8 _ b4) _ i r h4 (λ u5 b5 e5 h5.
         step (ask 26 _ b5) _ i r h5 (λ u6 b6 e6 h6.
-        step (ask 9 _ b6) _ i r h6 (λ u7 b7 e7 h7.
+        step (ask 27 _ b6) _ i r h6 (λ u7 b7 e7 h7.
+        step (ask 9 _ b7) _ i r h7 (λ u8 b8 e8 h8.
         let long = item-length 11 bytes x b1 e1 in
         let byte0 = List·getD-append x y 0 0 (omega arith) in
         let byte1 = List·getD-append x y 0 1 (omega arith) in
@@ -142,8 +153,9 @@ module _ (processors : ℕ) (lines : List Attribute) where
         (sound done (x ++ y)
         (rw (byte0, byte2) (asked 7 (question7 (kindOf (getD x 0 0)) (getD x 2 0)) b2 u3 b3 e3))
         (rw (byte0, byte1, byte2) (asked 8 (question8 (length lines) (kindOf (getD x 0 0)) (getD x 2 0) (getD x 1 0)) b4 u5 b5 e5)))
-        (passed26 done (x ++ y)
-        (rw (byte0, byte1) (asked 26 (question26 lines (kindOf (getD x 0 0)) (getD x 1 0)) b5 u6 b6 e6))))))))))
+        (sound-lines done (x ++ y)
+        (rw (byte0, byte1) (asked 26 (question26 lines (kindOf (getD x 0 0)) (getD x 1 0)) b5 u6 b6 e6))
+        (rw (byte1, byte2) (asked 27 (question27 lines (getD x 2 0) (getD x 1 0)) b6 u7 b7 e7)))))))))))
 
     program-keeps : (done : List Instruction) (bytes : List ℕ) (out : List Instruction) (r : List ℕ)
         → Read processors lines done → readProgram processors lines p done bytes ≡ found out r → Read processors lines out × (length out ≤ 40)
@@ -229,7 +241,7 @@ accepted bytes e rest h =
       pairs-few = pairs-counted is b4 pairs b5 e5;
       consecutive = subst (Consecutive p 0 0) w (inv .0);
       sound = subst (λ (n : ℕ). Each (Sound p n) is) (length-map lines (λ l. l .attribute)) (subst (Each (Sound p (length (lineAttributes lines)))) w (inv .1));
-      semaphores-passed = subst (Each (Passed26 (lineAttributes lines))) w (inv .2);
+      sound-lines = subst (Each (SoundLines (lineAttributes lines))) w (inv .2);
       rising = pairs-rise is b4 pairs b5 e5;
     })))))))))
 

@@ -1,19 +1,20 @@
--- The bytes of an access: an instruction of an accepted record accesses bytes of one line only; two accesses of one byte overlap.
-use Prim.Native.Nat.{ℕ, _+_, _*_, _/_, _%_, _≤_, _<_}
+-- The bytes of an access: an instruction of an accepted record accesses bytes of its line and the next; two accesses of one byte overlap.
+use Prim.Native.Nat.{ℕ, suc, _+_, _*_, _/_, _%_, _≤_, _<_}
 use native.Mathlib.Omega.{arith}
 use mathlib.Core.Path.{_≡_, refl, sym, ap, _∙_}
-use mathlib.Core.Bool.{Bool, true, false, cond, _&&_, _||_}
-use mathlib.Core.List.{[], _∷_, List·Memᴰ}
-use mathlib.Core.Logic.{_⊎_, inl, inr}
+use mathlib.Core.Bool.{Bool, true, false, _||_}
+use mathlib.Core.List.{List, [], _∷_, List·Memᴰ, List·Memᴰ·head, List·Memᴰ·tail}
+use lib.ListN.{length}
 use lib.Dec.{eqb, leb, ltb}
 use borrow.Author.Tests.{eqb-true, le-leb, leb-true, lt-ltb, ltb-true}
-use Rattle.base.specs.Lists.{member}
-use Rattle.base.proofs.Bools.{and-parts, and-both, clash}
-use Rattle.base.proofs.Lists.{any-member, in-count, of-count}
-use Rattle.model.specs.Execution.{isFence, Instruction}
-use Rattle.model.specs.Questions.{question7, question8}
-use Rattle.model.specs.Rules.{addresses, accesses, overlap}
+use Rattle.base.specs.Lists.{all, any, keep, member}
+use Rattle.base.proofs.Bools.{split, and-parts, and-both}
+use Rattle.base.proofs.Lists.{any-member, all-member, member-in, in-count, of-count}
+use Rattle.model.specs.Execution.{Kind, ld, ld-acq, st, st-rel, mf, sem-acq, sem-rel, isFence, Instruction}
+use Rattle.model.specs.Questions.{question7, question8, sizesOf, writtenFrom}
+use Rattle.model.specs.Rules.{addresses, accesses, sharedBytes, overlap}
 use Rattle.model.specs.Accepted.{Sound}
+use Rattle.model.proofs.Accepted.{data-within, more-few}
 
 -- an access
 pub accessed : (i : Instruction) (a : ℕ) → accesses i a ≡ true → (i .address ≤ a) × (a < i .address + i .size)
@@ -31,74 +32,87 @@ pub in-reach : (i : Instruction) (b : ℕ) → accesses i b ≡ true → List·M
 unfolding addresses
 in-reach i b h = let (l, r) = accessed i b h in in-count (i .address) (i .size) b l r
 
+-- two accesses overlap when some byte of the first is one of the second
+pub overlap-any : (i j : Instruction) → overlap i j ≡ any (accesses j) (addresses i)
+unfolding overlap sharedBytes keep any
+overlap-any i j = some-kept (accesses j) (addresses i)
+  where
+    some-kept : (p : ℕ → Bool) (l : List ℕ) → ltb 0 (length (keep p l)) ≡ any p l
+    some-kept p [] = refl
+    some-kept p (a ∷ l) = split (p a) (λ h. rw h (lt-ltb 0 (suc (length (keep p l))) (omega arith))) (λ h. rw h (some-kept p l))
+
 -- two accesses of one byte overlap
 pub one-byte : (i j : Instruction) (a : ℕ) → accesses i a ≡ true → accesses j a ≡ true → overlap i j ≡ true
-unfolding overlap
-one-byte i j a h k = any-member (accesses j) (in-reach i a h) k
+one-byte i j a h k = overlap-any i j ∙ any-member (accesses j) (in-reach i a h) k
 
--- an instruction of an accepted record accesses bytes of one line only
-none : (size : ℕ) → member (0 ∷ []) size ≡ true → size ≡ 0
-unfolding member
-none size m = by (eqb 0 size) refl m
+-- the sizes that question 7 passes; an access of such a size, at a multiple of it, lies on as many lines as there are eights of bytes
+abbrev powers : List ℕ
+powers = 1 ∷ 2 ∷ 4 ∷ 8 ∷ 16 ∷ []
+
+sizes : (k : Kind) (size : ℕ) → isFence k ≡ false → question7 k size ≡ true → List·Memᴰ size powers
+unfolding question7 all member
+sizes k size f q = member-in powers size (rw f at (all-member (λ n. isFence k || member powers n) (member-in (sizesOf k) size q) (each-size k)))
   where
-    by : (b : Bool) → eqb 0 size ≡ b → (b || false) ≡ true → size ≡ 0
-    by true e k = sym (eqb-true 0 size e)
-    by false e k = clash k refl
+    each-size : (k : Kind) → all (λ n. isFence k || member powers n) (sizesOf k) ≡ true
+    each-size ld = refl
+    each-size ld-acq = refl
+    each-size st = refl
+    each-size st-rel = refl
+    each-size mf = refl
+    each-size sem-acq = refl
+    each-size sem-rel = refl
 
-sizes : (size : ℕ) → member (1 ∷ 2 ∷ 4 ∷ 8 ∷ []) size ≡ true → (size ≡ 1) ⊎ (size ≡ 2) ⊎ (size ≡ 4) ⊎ (size ≡ 8)
-unfolding member
-sizes size h = go (eqb 1 size) refl (eqb 2 size) refl (eqb 4 size) refl (eqb 8 size) refl h
+multiple : (address size : ℕ) → List·Memᴰ size powers → address % size ≡ 0 → address % 8 + size ≤ 8 * ((size + 7) / 8)
+multiple address size m r = go m
   where
-    go : (a : Bool) → eqb 1 size ≡ a → (b : Bool) → eqb 2 size ≡ b → (c : Bool) → eqb 4 size ≡ c → (d : Bool) → eqb 8 size ≡ d
-        → (a || (b || (c || (d || false)))) ≡ true → (size ≡ 1) ⊎ (size ≡ 2) ⊎ (size ≡ 4) ⊎ (size ≡ 8)
-    go true e b f c g d i k = inl (sym (eqb-true 1 size e))
-    go false e true f c g d i k = inr (inl (sym (eqb-true 2 size f)))
-    go false e false f true g d i k = inr (inr (inl (sym (eqb-true 4 size g))))
-    go false e false f false g true i k = inr (inr (inr (sym (eqb-true 8 size i))))
-    go false e false f false g false i k = clash k refl
+    at : (n : ℕ) → size ≡ n → address % n ≡ 0
+    at n e = ap (λ (s : ℕ). address % s) (sym e) ∙ r
 
-aligned : (address size a : ℕ) → (size ≡ 1) ⊎ (size ≡ 2) ⊎ (size ≡ 4) ⊎ (size ≡ 8) → eqb (address % size) 0 ≡ true → address ≤ a → a < address + size
-    → (a / 8 ≡ address / 8) × (size ≤ 8)
-aligned address size a (inl e) m l r = let z : size ≡ 1 = e in (omega arith, omega arith)
-aligned address size a (inr (inl e)) m l r =
-    let z : address % 2 ≡ 0 = eqb-true (address % 2) 0 (ap (λ (s : ℕ). eqb (address % s) 0) (sym e) ∙ m) in (omega arith, omega arith)
-aligned address size a (inr (inr (inl e))) m l r =
-    let z : address % 4 ≡ 0 = eqb-true (address % 4) 0 (ap (λ (s : ℕ). eqb (address % s) 0) (sym e) ∙ m) in (omega arith, omega arith)
-aligned address size a (inr (inr (inr e))) m l r =
-    let z : address % 8 ≡ 0 = eqb-true (address % 8) 0 (ap (λ (s : ℕ). eqb (address % s) 0) (sym e) ∙ m) in (omega arith, omega arith)
+    go : List·Memᴰ size powers → address % 8 + size ≤ 8 * ((size + 7) / 8)
+    go (List·Memᴰ·head e) = omega arith
+    go (List·Memᴰ·tail (List·Memᴰ·head e)) = omega (arith, at 2 e)
+    go (List·Memᴰ·tail (List·Memᴰ·tail (List·Memᴰ·head e))) = omega (arith, at 4 e)
+    go (List·Memᴰ·tail (List·Memᴰ·tail (List·Memᴰ·tail (List·Memᴰ·head e)))) = omega (arith, at 8 e)
+    go (List·Memᴰ·tail (List·Memᴰ·tail (List·Memᴰ·tail (List·Memᴰ·tail (List·Memᴰ·head e))))) = omega (arith, at 16 e)
 
+-- an instruction of an accepted record: what it wrote ends among sixteen data bytes, and it fits into its line and the next, within the lines
+pub record Fitting (lines : ℕ) (i : Instruction) : Type 0 where
+  pub few : writtenFrom (i .kind) + i .size ≤ 16
+  pub two-lines : i .address % 8 + i .size ≤ 16
+  pub inside : i .address + i .size ≤ 8 * lines
+
+-- its lines are those from its address on
+pub on-lines : {processors lines : ℕ} {i : Instruction} → Sound processors lines i
+    → (i .address % 8 + i .size ≤ 8 * ((i .size + 7) / 8)) × (i .address + i .size ≤ 8 * lines)
+unfolding question7 question8 all
+on-lines {processors} {lines} {i} s =
+    split (isFence (i .kind))
+    (λ f.
+    let none : i .size ≡ 0 = eqb-true (i .size) 0 (all-member (λ n. eqb n 0) (member-in (0 ∷ []) (i .size) (rw f at (s .size-passed))) refl) in
+    let at : i .address ≡ 0 = eqb-true (i .address) 0 (rw f at (s .address-passed)) in
+    (omega arith, omega arith))
+    (λ f.
+    let (even, inside) = and-parts (eqb (i .address % i .size) 0) (leb (i .address + i .size) (8 * lines)) (rw f at (s .address-passed)) in (
+      multiple (i .address) (i .size) (sizes (i .kind) (i .size) f (s .size-passed)) (eqb-true (i .address % i .size) 0 even),
+      leb-true (i .address + i .size) (8 * lines) inside,
+    ))
+
+pub fitting : {processors lines : ℕ} {i : Instruction} → Sound processors lines i → Fitting lines i
+fitting {processors} {lines} {i} s =
+    let few : writtenFrom (i .kind) + i .size ≤ 16 = omega (arith, data-within (i .kind) (i .size) (s .size-passed), more-few (i .kind) (i .size)) in
+    let (lines-are, inside) = on-lines s in
+    record { few = few; two-lines = omega (arith, few, lines-are); inside = inside }
+
+-- a byte that it accesses lies in its line or the next
 pub record Within (lines : ℕ) (i : Instruction) (a : ℕ) : Type 0 where
-  pub one-line : a / 8 ≡ i .address / 8
-  pub few : i .size ≤ 8
+  pub fits : Fitting lines i
   pub from : i .address ≤ a
   pub to : a < i .address + i .size
+  pub near : a < 8 * (i .address / 8) + 16
   pub there : a < 8 * lines
 
 pub within : {processors lines : ℕ} {i : Instruction} → Sound processors lines i → (a : ℕ) → accesses i a ≡ true → Within lines i a
-unfolding question7 question8 member
-within {processors} {lines} {i} s a h = go (isFence (i .kind)) (s .size-passed) (s .address-passed) (accessed i a h .0) (accessed i a h .1)
-  where
-    go : (f : Bool) → member (cond f (0 ∷ []) (1 ∷ 2 ∷ 4 ∷ 8 ∷ [])) (i .size) ≡ true
-        → cond f (eqb (i .address) 0) (eqb (i .address % i .size) 0 && leb (i .address + i .size) (8 * lines)) ≡ true
-        → i .address ≤ a → a < i .address + i .size → Within lines i a
-    go true m d l r = absurd (omega (arith, none (i .size) m))
-    go false m d l r =
-        let (d1, d2) = and-parts (eqb (i .address % i .size) 0) (leb (i .address + i .size) (8 * lines)) d in
-        let (one, few) = aligned (i .address) (i .size) a (sizes (i .size) m) d1 l r in
-        record { one-line = one; few = few; from = l; to = r; there = omega (arith, leb-true (i .address + i .size) (8 * lines) d2) }
-
--- and so it fits into that line
-fits-one : (address size : ℕ) → (size ≡ 1) ⊎ (size ≡ 2) ⊎ (size ≡ 4) ⊎ (size ≡ 8) → eqb (address % size) 0 ≡ true → address % 8 + size ≤ 8
-fits-one address size (inl e) m = omega arith
-fits-one address size (inr (inl e)) m = let z : address % 2 ≡ 0 = eqb-true (address % 2) 0 (ap (λ (s : ℕ). eqb (address % s) 0) (sym e) ∙ m) in omega arith
-fits-one address size (inr (inr (inl e))) m = let z : address % 4 ≡ 0 = eqb-true (address % 4) 0 (ap (λ (s : ℕ). eqb (address % s) 0) (sym e) ∙ m) in omega arith
-fits-one address size (inr (inr (inr e))) m = let z : address % 8 ≡ 0 = eqb-true (address % 8) 0 (ap (λ (s : ℕ). eqb (address % s) 0) (sym e) ∙ m) in omega arith
-
-pub fits-line : {processors lines : ℕ} {i : Instruction} → Sound processors lines i → i .address % 8 + i .size ≤ 8
-unfolding question7 question8 member
-fits-line {processors} {lines} {i} s = go (isFence (i .kind)) (s .size-passed) (s .address-passed)
-  where
-    go : (f : Bool) → member (cond f (0 ∷ []) (1 ∷ 2 ∷ 4 ∷ 8 ∷ [])) (i .size) ≡ true
-        → cond f (eqb (i .address) 0) (eqb (i .address % i .size) 0 && leb (i .address + i .size) (8 * lines)) ≡ true → i .address % 8 + i .size ≤ 8
-    go true m d = omega (arith, none (i .size) m, eqb-true (i .address) 0 d)
-    go false m d = fits-one (i .address) (i .size) (sizes (i .size) m) (and-parts (eqb (i .address % i .size) 0) (leb (i .address + i .size) (8 * lines)) d .0)
+within {processors} {lines} {i} s a h =
+    let f = fitting s in
+    let (from, to) = accessed i a h in
+    record { fits = f; from = from; to = to; near = omega (arith, f .two-lines, to); there = omega (arith, f .inside, to) }

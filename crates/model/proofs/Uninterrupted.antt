@@ -1,5 +1,5 @@
--- A semaphore reads and writes without interruption: in an order that the judge calls legal none is local for a byte it reads.
-use Prim.Native.Nat.{ℕ, _/_}
+-- The lines of an access have one attribute. A semaphore reads and writes without interruption: in an order that the judge calls legal none is local for a byte it reads.
+use Prim.Native.Nat.{ℕ, _+_, _/_}
 use native.Mathlib.Omega.{arith}
 use mathlib.Core.Path.{_≡_, refl, sym, ap, _∙_, subst}
 use mathlib.Core.Bool.{true, false, not, _&&_}
@@ -9,18 +9,19 @@ use lib.ListN.{length, getD, List·getD-map}
 use borrow.Author.Tests.{eq-eqb, eqb-true, eqb-false, ne-eqb}
 use Rattle.base.specs.Lists.{keep, member, distinct}
 use Rattle.base.proofs.Bools.{split, clash, is-false, and-parts, and-both, not-both}
-use Rattle.base.proofs.Lists.{any-map, any-witness, getD-member, of-keep, in-for, in-when, distinct-full}
-use Rattle.model.specs.Execution.{Instruction, Execution, R, LV, RV, numberOf, isWB, noLine, lineAt, attributeAt, operations, allOperations, stores, semaphores}
-use Rattle.model.specs.Questions.{question26}
+use Rattle.base.proofs.Lists.{any-map, any-witness, all-member, in-member, in-count, length-count, getD-member, of-keep, in-for, in-when, distinct-full}
+use Rattle.model.specs.Execution.{Instruction, Execution, R, LV, RV, numberOf, WC, attributeNumber, attributeOf, isWB, noLine, lineAt, linesFrom, attributeAt, operations, allOperations, stores, semaphores}
+use Rattle.model.specs.Questions.{question26, question27, lineAttributes}
 use Rattle.model.specs.Rules.{before, accesses, inWB, link15, must, RV-own, linksOf, conflict, forConflicts, rule9, sightOf, rule16, rules, local, broken, consistent}
 use Rattle.model.specs.Accepted.{Accepted}
-use Rattle.model.specs.Claims.{NoSemaphoreLocal}
+use Rattle.model.specs.Claims.{NoSemaphoreLocal, EitherLine}
 use Rattle.model.proofs.Accepted.{read-found, read-accepted}
-use Rattle.model.proofs.Accesses.{one-byte, within}
+use Rattle.model.proofs.Accesses.{accessed, one-byte, on-lines, fitting}
 use Rattle.model.proofs.Before.{before-past, before-other}
 use Rattle.model.proofs.Consistent.{unbroken}
 use Rattle.model.proofs.Legal.{legal-passes, legal-consistent}
 use Rattle.model.proofs.Numbers.{one-numbered, number-below}
+use Rattle.model.proofs.Uncacheable.{attribute-numbers}
 use Rattle.model.proofs.Ownership.{each-in, is-store, is-semaphore, semaphore-load, semaphore-store, R-in, LV-in, RV-in, store-processor, RV-differ}
 
 -- a store that makes a load local for a byte: of the load's processor, with LV before R before RV
@@ -47,16 +48,34 @@ module _ (e : Execution) (accepted : Accepted e) where
   unfolding question26 attributeAt lineAt
   semaphore-WB {s} m =
       let (i, k) = is-semaphore e m in
-      let q = each-in _ (accepted .semaphores-passed) i in
+      let q = each-in _ (accepted .sound-lines) i .semaphore-passed in
       sym (ap isWB (List·getD-map (λ l. l .attribute) (e .lines) (s .address / 8) noLine)) ∙ rw k at q
 
-  -- accesses of one byte are to one line
-  pub one-line : {i j : Instruction} → List·Memᴰ i (e .instructions) → List·Memᴰ j (e .instructions) → (b : ℕ) → accesses i b ≡ true → accesses j b ≡ true
+  -- the line of a byte is one of its access
+  line-of : {i : Instruction} → List·Memᴰ i (e .instructions) → (b : ℕ) → accesses i b ≡ true → List·Memᴰ (b / 8) (linesFrom (i .address) (i .size))
+  unfolding linesFrom
+  line-of {i} m b h =
+      let its = accessed i b h in
+      in-count (i .address / 8) ((i .size + 7) / 8) (b / 8) (omega (arith, its .0)) (omega (arith, its .1, on-lines (each-in _ (accepted .sound) m) .0))
+
+  -- the lines of an access have one attribute
+  pub one-attribute : {i : Instruction} → List·Memᴰ i (e .instructions) → (b : ℕ) → accesses i b ≡ true → lineAt e b .attribute ≡ attributeAt e i
+  unfolding question27 attributeAt lineAt
+  one-attribute {i} m b h =
+      sym (numbered (b / 8))
+      ∙ ap attributeOf (eqb-true (number (b / 8)) (number (i .address / 8)) (all-member _ (line-of m b h) (each-in _ (accepted .sound-lines) m .lines-passed)))
+      ∙ numbered (i .address / 8)
+    where
+      number : ℕ → ℕ
+      number k = attributeNumber (getD (lineAttributes (e .lines)) k WC)
+
+      numbered : (k : ℕ) → attributeOf (number k) ≡ getD (e .lines) k noLine .attribute
+      numbered k = attribute-numbers .0 _ ∙ List·getD-map (λ l. l .attribute) (e .lines) k noLine
+
+  -- accesses of one byte are to memory of one attribute
+  pub same-memory : {i j : Instruction} → List·Memᴰ i (e .instructions) → List·Memᴰ j (e .instructions) → (b : ℕ) → accesses i b ≡ true → accesses j b ≡ true
       → inWB e i ≡ inWB e j
-  unfolding attributeAt lineAt
-  one-line mi mj b hi hj =
-      ap (λ (k : ℕ). isWB (getD (e .lines) k noLine .attribute))
-      (sym (within (each-in _ (accepted .sound) mi) b hi .one-line) ∙ within (each-in _ (accepted .sound) mj) b hj .one-line)
+  same-memory mi mj b hi hj = ap isWB (sym (one-attribute mi b hi) ∙ one-attribute mj b hj)
 
   module _ (xs : List ℕ) (consists : consistent e xs ≡ true) {s : Instruction} (ms : List·Memᴰ s (semaphores e)) where
     -- rule 15 for a semaphore
@@ -72,7 +91,7 @@ module _ (e : Execution) (accepted : Accepted e) where
       conflicts : conflict e w s ≡ true
       unfolding conflict
       conflicts =
-          rw (ne-eqb (w .number) (s .number) other, one-byte w s b (l .there) hs, one-line (is-store e (l .stores-it) .0) (is-semaphore e ms .0) b (l .there) hs, semaphore-WB ms)
+          rw (ne-eqb (w .number) (s .number) other, one-byte w s b (l .there) hs, same-memory (is-store e (l .stores-it) .0) (is-semaphore e ms .0) b (l .there) hs, semaphore-WB ms)
 
       -- rules 15 and 9: its RV is not behind the semaphore's
       rule9-kept : before xs (RV-own s) (numberOf w (RV (s .processor))) ≡ false
@@ -124,3 +143,11 @@ no-semaphore-local bytes e h order legal s m b there =
     let consists = legal-consistent bytes e rest f order full different .0 legal in
     is-false (local order (sightOf e s b)) (λ t.
     none-local e accepted order consists m there (local-by e order s b t .1) (own-stands e accepted order full different (semaphore-store e m)))
+
+pub either-line : EitherLine
+unfolding linesFrom
+either-line bytes e h i m =
+    let accepted = read-accepted bytes e h in (
+      omega (arith, length-count (i .address / 8) ((i .size + 7) / 8), fitting (each-in _ (accepted .sound) m) .few),
+      λ b there. (in-member (line-of e accepted m b there), one-attribute e accepted m b there),
+    )

@@ -1,11 +1,11 @@
--- What holds of an execution whose record is accepted, for contracts that ask for one: instructions and operations are numbered one after the other, and each instruction passed questions 7, 8 and 26.
+-- What holds of an execution whose record is accepted, for contracts that ask for one: instructions and operations are numbered one after the other, and each instruction passed questions 7, 8, 26 and 27.
 use Prim.Native.Nat.{ℕ, suc, _+_, _≤_, _<_}
 use mathlib.Core.Path.{_≡_}
 use mathlib.Core.Bool.{true}
 use mathlib.Core.List.{List, [], _∷_}
 use lib.ListN.{length}
-use Rattle.model.specs.Execution.{Instruction, Execution, roles, operations}
-use Rattle.model.specs.Questions.{question7, question8, question26, lineAttributes}
+use Rattle.model.specs.Execution.{Attribute, Instruction, Execution, roles, operations}
+use Rattle.model.specs.Questions.{question7, question8, question26, question27, lineAttributes}
 
 -- instructions numbered from n on, their operations from `at` on
 abbrev pub Consecutive : ℕ → ℕ → ℕ → List Instruction → Type 0
@@ -17,6 +17,11 @@ pub record Sound (processors lines : ℕ) (i : Instruction) : Type 0 where
   pub own : i .processor < processors
   pub size-passed : question7 (i .kind) (i .size) ≡ true
   pub address-passed : question8 lines (i .kind) (i .size) (i .address) ≡ true
+
+-- and questions 26 and 27, by the attributes of the lines
+pub record SoundLines (lines : List Attribute) (i : Instruction) : Type 0 where
+  pub semaphore-passed : question26 lines (i .kind) (i .address) ≡ true
+  pub lines-passed : question27 lines (i .size) (i .address) ≡ true
 
 module _ {A : Type 0} where
   -- each element has the property
@@ -38,5 +43,5 @@ pub record Accepted (e : Execution) : Type 0 where
   pub pairs-few : length (e .pairs) ≤ 40
   pub consecutive : Consecutive (e .processors) 0 0 (e .instructions)
   pub sound : Each (Sound (e .processors) (length (e .lines))) (e .instructions)
-  pub semaphores-passed : Each (λ i. question26 (lineAttributes (e .lines)) (i .kind) (i .address) ≡ true) (e .instructions)
+  pub sound-lines : Each (SoundLines (lineAttributes (e .lines))) (e .instructions)
   pub rising : Each Rises (e .pairs)

@@ -1,5 +1,5 @@
 -- Claims about the definitions that a reader may quote.
-use Prim.Native.Nat.{ℕ, suc, _+_, _*_, _≤_, _<_}
+use Prim.Native.Nat.{ℕ, suc, _+_, _*_, _/_, _≤_, _<_}
 use mathlib.Core.Path.{_≡_}
 use mathlib.Core.Bool.{Bool, true, false, _&&_, _||_}
 use mathlib.Core.List.{List, [], _∷_, _++_, map, List·Memᴰ}
@@ -7,7 +7,7 @@ use mathlib.Core.Logic.{_↔_}
 use lib.ListN.{length, getD, take, set, replicate}
 use Rattle.base.specs.Lists.{member, distinct}
 use Rattle.base.specs.Lex.{Less}
-use Rattle.model.specs.Execution.{Kind, isLoad, isStore, isAcquire, isRelease, isFence, Attribute, WB, UC, WC, attributeNumber, attributeOf, Line, Instruction, Execution, Operation, operations, semaphores}
+use Rattle.model.specs.Execution.{Kind, isLoad, isStore, isAcquire, isRelease, isFence, Attribute, WB, UC, WC, attributeNumber, attributeOf, Line, Instruction, Execution, Operation, operations, semaphores, lineAt, linesFrom, attributeAt}
 use Rattle.model.specs.Questions.{at, lineLength, initialPlace, question2, question3, question4, lineOf}
 use Rattle.model.specs.Rules.{accesses, isRorLV, earlier, link8, inUC, link13, Claim, must, sees, linksOf, sightOf, rules, local, broken, keeps, consistent}
 use Rattle.model.specs.ProgramOrder.{marks}
@@ -162,3 +162,11 @@ NoSemaphoreLocal =
     → (order : List ℕ) → Legal bytes order
     → (s : Instruction) → List·Memᴰ s (semaphores e)
     → (b : ℕ) → accesses s b ≡ true → local order (sightOf e s b) ≡ false
+
+-- P7: an access lies on one line or two, and its attribute, with the domain, is that of either.
+abbrev pub EitherLine : Type 0
+EitherLine =
+    (bytes : List ℕ) (e : Execution) → readAll bytes ≡ says e
+    → (i : Instruction) → List·Memᴰ i (e .instructions)
+    → (length (linesFrom (i .address) (i .size)) ≤ 2)
+    × ((b : ℕ) → accesses i b ≡ true → (member (linesFrom (i .address) (i .size)) (b / 8) ≡ true) × (lineAt e b .attribute ≡ attributeAt e i))

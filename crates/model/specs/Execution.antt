@@ -4,7 +4,7 @@ use mathlib.Core.Bool.{Bool, true, false, not, cond, _&&_}
 use mathlib.Core.List.{List, [], _∷_, _++_, map}
 use lib.ListN.{length, getD}
 use lib.Dec.{eqb}
-use Rattle.base.specs.Lists.{any, keep, for, below}
+use Rattle.base.specs.Lists.{any, keep, for, count, below}
 
 -- The kind of an instruction. Its number in the record is its place in this list.
 pub data Kind : Type 0 where
@@ -232,7 +232,11 @@ noLine = record { attribute = WC; initial = [] }
 unfoldable pub lineAt : Execution → ℕ → Line
 lineAt e a = getD (e .lines) (a / 8) noLine
 
--- the attribute of the memory that an instruction accesses
+-- the lines of so many bytes from an address on, a multiple of their number: one line, or for 16 bytes two; none of no bytes
+unfoldable pub linesFrom : ℕ → ℕ → List ℕ
+linesFrom address size = count (address / 8) ((size + 7) / 8)
+
+-- the attribute, with the domain, of the memory that an instruction accesses: that of its first line. (By question 27 it is that of either.)
 unfoldable pub attributeAt : Execution → Instruction → Attribute
 attributeAt e i = lineAt e (i .address) .attribute
 

@@ -3,7 +3,7 @@ use Prim.Native.Nat.{ℕ, _+_}
 use mathlib.Core.List.{List, [], _∷_, _++_, map}
 use lib.ListN.{take, drop, replicate}
 use Rattle.base.specs.Lists.{for, count, below}
-use Rattle.model.specs.Notation.{x, y, wb, uc, wc, uc-of, zeros, ld, st, mf, entry, sem-acq, sem-rel, recordOf}
+use Rattle.model.specs.Notation.{x, y, wb, uc, wc, uc-of, zeros, ld, st, mf, entry, sem-acq, sem-rel, wide, ld16, st16, recordOf}
 use Rattle.model.specs.Rows.{Row, judged-no, searched-no, tabled-no, cut}
 use Rattle.model.specs.PaperTable.{k1, k2, k11-pair}
 use Rattle.model.specs.RequestTable.{nothing}
@@ -12,7 +12,7 @@ use Rattle.model.specs.RequestTable.{nothing}
 abbrev refused : List ℕ → ℕ → Row
 refused bytes q = judged-no bytes [] q
 
--- a record with an instruction passes questions 1 to 15 and 26: it is its empty order that is refused
+-- a record with an instruction passes questions 1 to 15, 26 and 27: it is its empty order that is refused
 abbrev passes : List ℕ → Row
 passes bytes = judged-no bytes [] 16
 
@@ -40,9 +40,13 @@ manyPairs n = recordOf (wb ∷ []) (replicate 10 (ld x 0) ∷ []) (take n (for (
 abbrev eight : ℕ → ℕ → List ℕ
 eight stores loads = programs ((replicate stores (st x 1) ++ replicate loads (ld x 0)) ∷ replicate 7 [])
 
--- a semaphore of which eight bytes are missing
+-- an entry of which eight bytes are missing, where its kind and size have them
 abbrev cut-short : ℕ → ℕ → List ℕ
 cut-short kind size = 1 ∷ 1 ∷ wb ++ (1 ∷ entry kind 0 size 0)
+
+-- a load of sixteen bytes on two lines
+abbrev over : List ℕ → List ℕ → List ℕ
+over first second = recordOf (first ∷ second ∷ []) ((ld16 x 0 0 ∷ []) ∷ []) []
 
 -- a semaphore that saw one byte, with a spare byte that is not zero
 abbrev spare-seen : List ℕ
@@ -86,11 +90,24 @@ questionTable =
     ∷ refused (cut-short 5 1) 1
     ∷ refused (cut-short 6 8) 1
     ∷ cut (only (sem-acq x 0 1)) 1
-    -- 7: sizes 1, 2, 4 and 8, of an mf 0
+    -- and so of an access of size 16, the other eight before 8
+    ∷ refused (cut-short 0 16) 1
+    ∷ refused (cut-short 3 16) 1
+    ∷ refused (cut-short 5 16) 7
+    ∷ refused (cut-short 4 16) 7
+    ∷ refused (take 30 (only (st16 x 1 1))) 1
+    ∷ refused (only (st16 x 1 1)) 8
+    ∷ cut (over wb wb) 1
+    -- 7: sizes 1, 2, 4, 8 and 16, of an mf 0, of a semaphore not 16
     ∷ refused (only (entry 0 0 0 0)) 7
     ∷ refused (only (entry 0 0 3 0)) 7
-    ∷ refused (only (entry 0 0 16 0)) 7
+    ∷ refused (only (entry 0 0 15 0)) 7
+    ∷ refused (only (entry 0 0 32 0)) 7
     ∷ refused (only (entry 4 0 1 0)) 7
+    ∷ refused (only (wide 4 0 0 0)) 7
+    ∷ refused (only (wide 5 0 0 0)) 7
+    ∷ refused (only (wide 6 0 0 0)) 7
+    ∷ passes (recordOf (wb ∷ wb ∷ []) ((ld16 x 0 0 ∷ wide 1 0 0 0 ∷ st16 x 1 1 ∷ wide 3 0 1 1 ∷ []) ∷ []) [])
     ∷ passes (programs ((ld x 0 ∷ entry 0 6 2 0 ∷ entry 0 4 4 0 ∷ entry 0 0 8 0 ∷ []) ∷ []))
     -- 8: a multiple of the size, within the lines, of an mf 0
     ∷ refused (only (entry 0 4 8 0)) 8
@@ -99,6 +116,9 @@ questionTable =
     ∷ refused (only (entry 4 8 0 0)) 8
     ∷ refused (only (entry 4 1 0 0)) 8
     ∷ passes (only (ld 7 0))
+    ∷ refused (recordOf (replicate 3 wb) ((ld16 8 0 0 ∷ []) ∷ []) []) 8
+    ∷ refused (recordOf (replicate 3 wb) ((ld16 16 0 0 ∷ []) ∷ []) []) 8
+    ∷ passes (recordOf (replicate 4 wb) ((ld16 16 0 0 ∷ []) ∷ []) [])
     -- 26: a semaphore's line is WB; after 8, before 9
     ∷ refused (recordOf (uc ∷ []) ((sem-acq x 0 1 ∷ []) ∷ []) []) 26
     ∷ refused (recordOf (wc ∷ []) ((sem-rel x 0 1 ∷ []) ∷ []) []) 26
@@ -106,7 +126,17 @@ questionTable =
     ∷ passes (recordOf (uc ∷ wb ∷ []) ((st x 1 ∷ sem-rel y 0 1 ∷ []) ∷ []) [])
     ∷ refused (recordOf (uc ∷ []) ((sem-acq y 0 1 ∷ []) ∷ []) []) 8
     ∷ refused (recordOf (uc ∷ []) ((spare-seen ∷ []) ∷ []) []) 26
-    -- 9: data bytes past the size are zero
+    -- 27: both lines of an access have one attribute byte, so one domain; after 8
+    ∷ refused (over wb uc) 27
+    ∷ refused (over wc wb) 27
+    ∷ refused (over (uc-of 1) (uc-of 2)) 27
+    ∷ passes (over wc wc)
+    ∷ passes (over (uc-of 2) (uc-of 2))
+    ∷ refused (recordOf (wb ∷ wb ∷ wb ∷ uc ∷ []) ((st16 16 1 1 ∷ []) ∷ []) []) 27
+    ∷ passes (recordOf (wb ∷ uc ∷ wc ∷ wc ∷ []) ((st16 16 1 1 ∷ []) ∷ []) [])
+    ∷ passes (recordOf (wb ∷ uc ∷ []) ((entry 0 0 8 0 ∷ entry 2 8 8 0 ∷ []) ∷ []) [])
+    ∷ refused (recordOf (wb ∷ uc ∷ wb ∷ []) ((ld16 8 0 0 ∷ []) ∷ []) []) 8
+    -- 9: data bytes past the size are zero; size 16 leaves none
     ∷ refused (only (0 ∷ 0 ∷ 1 ∷ 5 ∷ 1 ∷ 0 ∷ 0 ∷ 0 ∷ 0 ∷ 0 ∷ 0 ∷ [])) 9
     ∷ refused (only (0 ∷ 0 ∷ 4 ∷ 5 ∷ 1 ∷ 1 ∷ 1 ∷ 0 ∷ 0 ∷ 0 ∷ 1 ∷ [])) 9
     ∷ refused (only (0 ∷ 0 ∷ 1 ∷ 5 ∷ 0 ∷ 0 ∷ 0 ∷ 0 ∷ 0 ∷ 0 ∷ 1 ∷ [])) 9
@@ -116,6 +146,7 @@ questionTable =
     ∷ refused (only (entry 6 0 1 5 ++ (5 ∷ replicate 6 0 ++ (1 ∷ [])))) 9
     ∷ passes (only (5 ∷ 0 ∷ 8 ∷ count 1 16))
     ∷ passes (only (2 ∷ 0 ∷ 8 ∷ 1 ∷ 2 ∷ 3 ∷ 4 ∷ 5 ∷ 6 ∷ 7 ∷ 8 ∷ []))
+    ∷ passes (recordOf (wb ∷ wb ∷ []) (((2 ∷ 0 ∷ 16 ∷ count 1 16) ∷ []) ∷ []) [])
     -- 10 is not asked: a record with no instruction passes (`RequestTable`), and where it is cut it is refused as any other
     ∷ cut nothing 1
     -- 11: 128 operations

@@ -5,7 +5,7 @@ use mathlib.Core.List.{List, [], _∷_, _++_, map}
 use lib.ListN.{length, getD, take, drop}
 use lib.Dec.{eqb, leb, ltb}
 use Rattle.base.specs.Lists.{all, member}
-use Rattle.model.specs.Execution.{Kind, kindOf, isLoad, isStore, isFence, isSemaphore, isOnlyStore, mf, Attribute, WC, isWB, attributeNumber, attributeOf, attributes, Line, Instruction, Execution, operationCount}
+use Rattle.model.specs.Execution.{Kind, kindOf, isLoad, isStore, isFence, isSemaphore, isOnlyStore, mf, Attribute, WC, isWB, attributeNumber, attributeOf, attributes, Line, Instruction, Execution, operationCount, linesFrom}
 
 -- What a walk comes to: the number of the first question answered 'no', or a value and the bytes after it.
 pub data Found (A : Type 0) : Type 0 where
@@ -57,12 +57,12 @@ lineLength = 9
 abbrev pub initialPlace : ℕ → ℕ
 initialPlace a = 3 + lineLength * (a / 8) + a % 8
 
--- the bytes of an instruction: a kind, an address, a size, eight data bytes; for a semaphore eight more
+-- the bytes of an instruction: a kind, an address, a size, eight data bytes; for a semaphore and for size 16 eight more
 abbrev pub entryLength : ℕ
 entryLength = 11
 
-abbrev pub moreLength : Kind → ℕ
-moreLength k = cond (isSemaphore k) 8 0
+abbrev pub moreLength : Kind → ℕ → ℕ
+moreLength k size = cond (isSemaphore k || eqb size 16) 8 0
 
 -- the bytes of a pair
 abbrev pub pairLength : ℕ
@@ -88,9 +88,12 @@ question5 done n = leb (length done + n) 40
 unfoldable pub question6 : ℕ → Bool
 question6 k = leb k 6
 
--- 7: is the size 1, 2, 4 or 8 (mf: 0)?
+-- 7: is the size 1, 2, 4 or 8 (mf: 0), or, where it is no semaphore, 16 (document 02, P7)?
+abbrev pub sizesOf : Kind → List ℕ
+sizesOf k = cond (isFence k) (0 ∷ []) (1 ∷ 2 ∷ 4 ∷ 8 ∷ cond (isSemaphore k) [] (16 ∷ []))
+
 unfoldable pub question7 : Kind → ℕ → Bool
-question7 k size = member (cond (isFence k) (0 ∷ []) (1 ∷ 2 ∷ 4 ∷ 8 ∷ [])) size
+question7 k size = member (sizesOf k) size
 
 -- 8: is the address a multiple of the size, within the lines (mf: 0)?
 unfoldable pub question8 : ℕ → Kind → ℕ → ℕ → Bool
@@ -101,7 +104,14 @@ question8 lines k size address =
 unfoldable pub question26 : List Attribute → Kind → ℕ → Bool
 question26 lines k address = cond (isSemaphore k) (isWB (getD lines (address / 8) WC)) true
 
--- 9: are data bytes past the size zero, of the first eight and of those after them?
+-- 27 (document 02, P7), at once after these: have all lines of the access the attribute byte of the first?
+unfoldable pub question27 : List Attribute → ℕ → ℕ → Bool
+question27 lines size address = all (λ k. eqb (number k) (number (address / 8))) (linesFrom address size)
+  where
+    number : ℕ → ℕ
+    number k = attributeNumber (getD lines k WC)
+
+-- 9: are data bytes past the size zero, of the first eight and of those after them? (Size 16 leaves none.)
 unfoldable pub question9 : ℕ → List ℕ → Bool
 question9 size bytes = spare (take 8 bytes) && spare (drop 8 bytes)
   where
@@ -198,9 +208,10 @@ readInstruction processors lines p done = do
   x ← item entryLength
   ask 6 (question6 (at x 0))
   ask 7 (question7 (kindOf (at x 0)) (at x 2))
-  y ← item (moreLength (kindOf (at x 0)))
+  y ← item (moreLength (kindOf (at x 0)) (at x 2))
   ask 8 (question8 (length lines) (kindOf (at x 0)) (at x 2) (at x 1))
   ask 26 (question26 lines (kindOf (at x 0)) (at x 1))
+  ask 27 (question27 lines (at x 2) (at x 1))
   ask 9 (question9 (at x 2) (drop 3 (x ++ y)))
   pure (instructionOf processors p done (x ++ y))
 

@@ -9,7 +9,7 @@ use Rattle.model.specs.Search.{allowed, forbidden}
 use Rattle.model.specs.Calls.{says, legal, breaks}
 use Rattle.model.specs.Courses.{proper, other}
 use Rattle.model.specs.Verdict.{wordAllowed, wordSteps}
-use Rattle.model.specs.Notation.{x, y, wb, uc, uc-of, ld, st, st-rel, mf, sem-acq, sem-rel, recordOf}
+use Rattle.model.specs.Notation.{x, y, wb, uc, uc-of, ld, st, st-rel, mf, sem-acq, sem-rel, ld16, st16, st16-rel, recordOf}
 use Rattle.model.specs.RuleTable.{one, one-pair, two}
 use Rattle.model.specs.Rows.{Row, lent, judged, searched, tabled, printed, followed}
 
@@ -32,6 +32,10 @@ ld-two low high = 0 ∷ 12 ∷ 2 ∷ low ∷ high ∷ replicate 6 0
 -- P3: one program on a WB line
 abbrev alone : List (List ℕ) → List ℕ
 alone program = recordOf (wb ∷ []) (program ∷ []) []
+
+-- P7: a store to the upper half and one to the lower half of a load of sixteen bytes, one of them of the load's processor
+abbrev halves : ℕ → ℕ → List ℕ
+halves low high = two wb wb (st x 1 ∷ []) (st y 2 ∷ ld16 x low high ∷ [])
 
 unfoldable pub requestTable : List Row
 requestTable =
@@ -132,4 +136,33 @@ requestTable =
     ∷ searched (two wb wb (sem-acq x 0 1 ∷ []) (sem-acq x 0 1 ∷ [])) [] 1000 forbidden 50 []
     ∷ searched (alone (sem-acq x 0 1 ∷ sem-rel x 1 0 ∷ [])) [] 1000 allowed 6 (0 ∷ 1 ∷ 2 ∷ 3 ∷ 4 ∷ 5 ∷ [])
     ∷ tabled (alone (sem-acq x 0 1 ∷ [])) (0 ∷ 1 ∷ 1 ∷ 0 ∷ 0 ∷ 1 ∷ 0 ∷ 0 ∷ 0 ∷ [])
+    -- P7, rule 11: byte by byte, so halves from two stores; a store of sixteen bytes is seen whole, by smaller loads too
+    ∷ judged (one wb wb (st y 7 ∷ ld16 x 0 7 ∷ [])) (0 ∷ 1 ∷ 2 ∷ []) legal
+    ∷ judged (one wb wb (st y 7 ∷ ld16 x 0 0 ∷ [])) (0 ∷ 1 ∷ 2 ∷ []) (breaks 11)
+    ∷ judged (one wb wb (st y 7 ∷ ld16 x 7 7 ∷ [])) (0 ∷ 1 ∷ 2 ∷ []) (breaks 11)
+    ∷ judged (one wb wb (st16 x 1 2 ∷ ld y 2 ∷ [])) (0 ∷ 2 ∷ 1 ∷ []) legal
+    ∷ judged (one wb wb (st16 x 1 2 ∷ ld y 1 ∷ [])) (0 ∷ 1 ∷ 2 ∷ []) (breaks 11)
+    -- P7: local for the bytes of the upper half alone
+    ∷ judged (halves 1 2) (0 ∷ 1 ∷ 2 ∷ 3 ∷ 6 ∷ 5 ∷ 4 ∷ []) legal
+    ∷ judged (halves 0 2) (0 ∷ 1 ∷ 2 ∷ 3 ∷ 6 ∷ 5 ∷ 4 ∷ []) (breaks 11)
+    ∷ judged (halves 1 0) (0 ∷ 1 ∷ 2 ∷ 3 ∷ 6 ∷ 5 ∷ 4 ∷ []) (breaks 11)
+    -- P7, the other rules see one access: here two overlap in the upper half alone. Rules 5 to 7
+    ∷ judged (one wb wb (st y 1 ∷ ld16 x 0 0 ∷ [])) (2 ∷ 0 ∷ 1 ∷ []) (breaks 5)
+    ∷ judged (one wb wb (st16 x 1 2 ∷ ld y 0 ∷ [])) (2 ∷ 0 ∷ 1 ∷ []) (breaks 5)
+    ∷ judged (one wb wb (ld16 x 0 0 ∷ st y 1 ∷ [])) (1 ∷ 0 ∷ 2 ∷ []) (breaks 6)
+    ∷ judged (one wb wb (st16 x 1 2 ∷ st y 3 ∷ [])) (2 ∷ 0 ∷ 1 ∷ 3 ∷ []) (breaks 7)
+    -- P7, rules 9, 10 and 12
+    ∷ judged (one wb wb (st16 x 1 2 ∷ st y 3 ∷ [])) (0 ∷ 2 ∷ 3 ∷ 1 ∷ []) (breaks 9)
+    ∷ judged (two wb wb (st16 x 1 2 ∷ []) (st y 3 ∷ [])) (0 ∷ 1 ∷ 3 ∷ 5 ∷ 2 ∷ 4 ∷ []) (breaks 10)
+    ∷ judged (two wb wb (st16-rel x 1 2 ∷ []) (ld y 0 ∷ [])) (0 ∷ 1 ∷ 3 ∷ 2 ∷ []) (breaks 12)
+    -- P7, rules 13, 14 and 16; bytes that only touch are not shared
+    ∷ judged (one (uc-of 1) (uc-of 1) (ld16 x 0 0 ∷ ld y 0 ∷ [])) (1 ∷ 0 ∷ []) (breaks 13)
+    ∷ judged (recordOf (uc-of 1 ∷ uc-of 1 ∷ uc-of 2 ∷ []) ((ld16 x 0 0 ∷ ld 16 0 ∷ []) ∷ []) []) (1 ∷ 0 ∷ []) legal
+    ∷ judged (one uc uc (st16 x 1 2 ∷ ld y 2 ∷ [])) (0 ∷ 2 ∷ 1 ∷ []) (breaks 14)
+    ∷ judged (two wb wb (sem-acq y 0 1 ∷ []) (st16 x 3 4 ∷ [])) (0 ∷ 1 ∷ 4 ∷ 6 ∷ 5 ∷ 2 ∷ 3 ∷ []) (breaks 16)
+    ∷ judged (recordOf (wb ∷ wb ∷ wb ∷ []) ((st16 x 1 2 ∷ ld 16 0 ∷ []) ∷ []) []) (2 ∷ 0 ∷ 1 ∷ []) legal
+    -- P7: no load sees half of a store of sixteen bytes; search and table
+    ∷ searched (two wb wb (st16 x 1 2 ∷ []) (ld16 x 1 0 ∷ [])) [] 1000 forbidden 3 []
+    ∷ searched (one wb wb (st16 x 1 2 ∷ ld y 2 ∷ [])) [] 1000 allowed 3 (0 ∷ 1 ∷ 2 ∷ [])
+    ∷ tabled (one wb wb (st16 x 1 2 ∷ ld y 2 ∷ [])) (0 ∷ 1 ∷ 1 ∷ 0 ∷ 0 ∷ 0 ∷ 0 ∷ 0 ∷ 0 ∷ [])
     ∷ []

@@ -3,7 +3,7 @@ use Prim.Native.Nat.{ℕ, suc, _+_, _-_}
 use mathlib.Core.Bool.{Bool, false, not, cond, _&&_, _||_}
 use mathlib.Core.List.{List, [], _∷_, map}
 use mathlib.Core.Option.{Option, none, some}
-use lib.ListN.{getD}
+use lib.ListN.{length, getD}
 use lib.Dec.{eqb, leb, ltb}
 use Rattle.base.specs.Lists.{any, keep, when, for, count, below, member}
 use Rattle.model.specs.Execution.{isAcquire, isRelease, isSemaphore, isWB, isUC, sameDomain, Instruction, Execution, Role, R, LV, F, RV, hasRoleR, hasRoleLV, hasRoleF, hasRoleRV, numberOf, Operation, operations, allOperations, loads, stores, semaphores, everyProcessor, attributeAt, initialByte}
@@ -29,9 +29,13 @@ byteSeen i a = getD (i .seen) (a - i .address) 0
 abbrev pub byteWritten : Instruction → ℕ → ℕ
 byteWritten i a = getD (i .wrote) (a - i .address) 0
 
+-- the bytes that two accesses share, by their addresses
+unfoldable pub sharedBytes : Instruction → Instruction → List ℕ
+sharedBytes i j = keep (accesses j) (addresses i)
+
 -- two accesses overlap when they share a byte
 unfoldable pub overlap : Instruction → Instruction → Bool
-overlap i j = any (accesses j) (addresses i)
+overlap i j = ltb 0 (length (sharedBytes i j))
 
 -- Operations by role
 

@@ -62,40 +62,41 @@ visibleByte s xs = lastByte (map (λ w. (w .rv, w .wrote)) (s .writers)) (s .ini
 abbrev ownByte : Sight → List ℕ → ℕ
 ownByte s xs = lastByte (map (λ w. (w .lv, w .wrote)) (keep (λ w. w .own) (s .writers))) (s .initial) xs
 
-record Shows (rows xs : List ℕ) (lo hi o i initial seen : ℕ) (e : model.Execution) (s : Sight) : Type 0 where
-  reads : bit (readBits rows o) i ≡ true
-  records : bit (readData rows o) i ≡ bitOf i initial seen
-  shows-visible : bit (getD (wordsAfter rows xs) (visibleWord rows o) 0) i ≡ bitOf i initial (visibleByte s xs)
-  shows-own : bit (getD (wordsAfter rows xs) (ownWord rows o) 0) i ≡ bitOf i initial (ownByte s xs)
-  shows : cond (localBit rows lo hi o i) (bit (getD (wordsAfter rows xs) (ownWord rows o) 0) i) (bit (getD (wordsAfter rows xs) (visibleWord rows o) 0) i)
+record Shows (rows xs : List ℕ) (lo hi g o i initial seen : ℕ) (e : model.Execution) (s : Sight) : Type 0 where
+  reads : bit (readBits rows g o) i ≡ true
+  records : bit (readData rows g o) i ≡ bitOf i initial seen
+  shows-visible : bit (getD (wordsAfter rows xs) (visibleWord rows g o) 0) i ≡ bitOf i initial (visibleByte s xs)
+  shows-own : bit (getD (wordsAfter rows xs) (ownWord rows g o) 0) i ≡ bitOf i initial (ownByte s xs)
+  shows : cond (localBit rows lo hi g o i) (bit (getD (wordsAfter rows xs) (ownWord rows g o) 0) i) (bit (getD (wordsAfter rows xs) (visibleWord rows g o) 0) i)
       ≡ bitOf i initial (byteNow e o xs s)
 
 searched-by : {t : Tables} (h : TablesMean t) (accepted : Accepted (executionOf (t .bytes) (t .execution))) (l : Instruction)
     → List·Memᴰ l (loads (executionOf (t .bytes) (t .execution))) → (b : ℕ) → accesses l b ≡ true
     → (xs : List ℕ) → distinct (operations (executionOf (t .bytes) (t .execution))) [] xs ≡ true → (lo hi : ℕ) → Standing xs lo hi
-    → (i : ℕ) → i / 8 ≡ b % 8
-    → Shows (t .rows) xs lo hi (numberOf l R) i (initialByte (executionOf (t .bytes) (t .execution)) b) (byteSeen l b) (executionOf (t .bytes) (t .execution)) (sightOf (executionOf (t .bytes) (t .execution)) l b)
-searched-by {t} h accepted l ml b reach xs different lo hi standing i at =
+    → (g i : ℕ) → b / 8 ≡ l .address / 8 + g → i / 8 ≡ b % 8
+    → Shows (t .rows) xs lo hi g (numberOf l R) i (initialByte (executionOf (t .bytes) (t .execution)) b) (byteSeen l b) (executionOf (t .bytes) (t .execution)) (sightOf (executionOf (t .bytes) (t .execution)) l b)
+searched-by {t} h accepted l ml b reach xs different lo hi standing g i line at =
     let e = executionOf (t .bytes) (t .execution) in
     let (il, loading) = is-load e ml in
     let o = numberOf l R in
     let low : o < operations e = number-low h (R-in e ml) in
     let (same, is-R) = owner-is h accepted o low il (R-role (e .processors) (l .kind) loading) refl in
     let role = number-R _ (sym is-R) in
+    let its-line = line ∙ ap (λ (j : Instruction). j .address / 8 + g) same in
     let its-reach = ap (λ (j : Instruction). accesses j b) (sym same) ∙ reach in
     record {
-      reads = read-bit h accepted o low xs different lo hi standing role b (i % 8) i its-reach at refl;
-      records = recorded-bit h accepted o low xs different lo hi standing role b (i % 8) i its-reach at refl ∙ ap (λ (j : Instruction). bitOf i (initialByte e b) (byteSeen j b)) (sym same);
-      shows-visible = visible-bit h accepted o low xs different lo hi standing role b (i % 8) i its-reach at refl ∙ ap (λ (j : Instruction). bitOf i (initialByte e b) (visibleByte (sightOf e j b) xs)) (sym same);
-      shows-own = own-bit h accepted o low xs different lo hi standing role b (i % 8) i its-reach at refl ∙ ap (λ (j : Instruction). bitOf i (initialByte e b) (ownByte (sightOf e j b) xs)) (sym same);
-      shows = seen-bit h accepted o low xs different lo hi standing role b (i % 8) i its-reach at refl ∙ ap (λ (j : Instruction). bitOf i (initialByte e b) (byteNow e o xs (sightOf e j b))) (sym same);
+      reads = read-bit h accepted o low xs different lo hi standing role b (i % 8) g i its-reach its-line at refl;
+      records = recorded-bit h accepted o low xs different lo hi standing role b (i % 8) g i its-reach its-line at refl ∙ ap (λ (j : Instruction). bitOf i (initialByte e b) (byteSeen j b)) (sym same);
+      shows-visible = visible-bit h accepted o low xs different lo hi standing role b (i % 8) g i its-reach its-line at refl ∙ ap (λ (j : Instruction). bitOf i (initialByte e b) (visibleByte (sightOf e j b) xs)) (sym same);
+      shows-own = own-bit h accepted o low xs different lo hi standing role b (i % 8) g i its-reach its-line at refl ∙ ap (λ (j : Instruction). bitOf i (initialByte e b) (ownByte (sightOf e j b) xs)) (sym same);
+      shows = seen-bit h accepted o low xs different lo hi standing role b (i % 8) g i its-reach its-line at refl ∙ ap (λ (j : Instruction). bitOf i (initialByte e b) (byteNow e o xs (sightOf e j b))) (sym same);
     }
 
 -- tables that show the same have the same
-alike : {rows others xs : List ℕ} {lo hi o i initial seen : ℕ} {e d : model.Execution} {s : Sight}
-    → Shows rows xs lo hi o i initial seen e s → Shows others xs lo hi o i initial seen d s → SameBit rows others xs lo hi o i
+alike : {rows others xs : List ℕ} {lo hi g o i initial seen : ℕ} {e d : model.Execution} {s : Sight}
+    → Shows rows xs lo hi g o i initial seen e s → Shows others xs lo hi g o i initial seen d s → SameBit rows others xs lo hi g o i
 unfolding byteNow
-alike {rows} {others} {xs} {lo} {hi} {o} {i} a b =
+alike {rows} {others} {xs} {lo} {hi} {g} {o} {i} a b =
     let seen = a .shows ∙ sym (b .shows) in
     let read = a .reads ∙ sym (b .reads) in
     let recorded = a .records ∙ sym (b .records) in
@@ -123,12 +124,12 @@ one-initial-byte-tested b bytes others x y h l ml reads = (
       judged-by bytes x l ml b reads p
       ∙ ap (λ (s : Sight). broken xs (sees s)) (same-sight h l)
       ∙ sym (judged-by others y l (load-too h l ml) b reads p),
-  λ t u marks otherMarks rows otherRows m om xs different lo hi standing i at.
+  λ t u marks otherMarks rows otherRows m om xs different lo hi standing g i line at.
       let e = executionOf bytes x in
       let d = executionOf others y in
-      let one = searched-by {t = record { bytes = bytes; execution = x; operations = t; marks = marks; rows = rows }} m (read-accepted bytes e (h .accepted)) l ml b reads xs different lo hi standing i at in
+      let one = searched-by {t = record { bytes = bytes; execution = x; operations = t; marks = marks; rows = rows }} m (read-accepted bytes e (h .accepted)) l ml b reads xs different lo hi standing g i line at in
       let two = searched-by {t = record { bytes = others; execution = y; operations = u; marks = otherMarks; rows = otherRows }} om (read-accepted others d (h .others-accepted)) l (load-too h l ml) b reads xs
-      (subst (λ (n : ℕ). distinct n [] xs ≡ true) (as-many h) different) lo hi standing i at in
-      alike one (subst (λ (v : ℕ). Shows otherRows xs lo hi (numberOf l R) i v (byteSeen l b) d (sightOf e l b)) (sym (same-initial h))
-      (subst (Shows otherRows xs lo hi (numberOf l R) i (initialByte d b) (byteSeen l b) d) (sym (same-sight h l)) two)),
+      (subst (λ (n : ℕ). distinct n [] xs ≡ true) (as-many h) different) lo hi standing g i line at in
+      alike one (subst (λ (v : ℕ). Shows otherRows xs lo hi g (numberOf l R) i v (byteSeen l b) d (sightOf e l b)) (sym (same-initial h))
+      (subst (Shows otherRows xs lo hi g (numberOf l R) i (initialByte d b) (byteSeen l b) d) (sym (same-sight h l)) two)),
 )

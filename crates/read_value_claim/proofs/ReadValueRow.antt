@@ -1,5 +1,5 @@
 -- The records of `ReadValueRow` are accepted and differ elsewhere, and their rows are what they should be.
-use Prim.Native.Nat.{ℕ, zero, suc, _<_}
+use Prim.Native.Nat.{ℕ, zero, suc, _+_, _*_, _<_}
 use native.Mathlib.Omega.{arith}
 use native.Mathlib.Decide.{ℕ-discrete}
 use mathlib.Core.Path.{_≡_, refl, sym, ap, _∙_}
@@ -12,10 +12,10 @@ use Rattle.base.specs.Lists.{all, any, keep, for, count, below, member, distinc
 use Rattle.base.specs.Below.{allBelow, anyBelow}
 use Rattle.base.specs.Bits.{packedOn, packed, bit}
 use Rattle.base.proofs.Tests.{all-at}
-use Rattle.model.specs.Execution.{kindOf, roles, placeAmong, remotesAt, operationCount, operations, operationsOf, allOperations, loads, stores, attributes, lineAt, attributeAt}
-use Rattle.model.specs.Questions.{initialPlace, next, item, byte, ask, question2, question3, question4, question5, question6, question7, question8, question26, question9, question11, question12, question15, many, lineOf, readLine, readLines, writtenFrom, seenOf, wroteOf, instructionOf, readInstruction, readProgram, readPrograms, readInstructions, readPairs, readRecord}
+use Rattle.model.specs.Execution.{kindOf, roles, placeAmong, remotesAt, operationCount, operations, operationsOf, allOperations, loads, stores, attributes, lineAt, linesFrom, attributeAt}
+use Rattle.model.specs.Questions.{initialPlace, next, item, byte, ask, question2, question3, question4, question5, question6, question7, question8, question26, question27, question9, question11, question12, question15, many, lineOf, readLine, readLines, writtenFrom, seenOf, wroteOf, instructionOf, readInstruction, readProgram, readPrograms, readInstructions, readPairs, readRecord}
 use Rattle.model.specs.ProgramOrder.{ruleMarks, marks}
-use Rattle.model.specs.Rules.{addresses, accesses, overlap, link1, link2, link3, link4, link5, link6, link7, paired, link8, link13, link15, conflict, linked}
+use Rattle.model.specs.Rules.{addresses, accesses, sharedBytes, overlap, link1, link2, link3, link4, link5, link6, link7, paired, link8, link13, link15, conflict, linked}
 use Rattle.model.specs.Calls.{says, answerOf, readAll}
 use Rattle.model.specs.Notation.{recordOf}
 use Rattle.record_decoded.specs.Decoded.{dataOf, decodedLine, linesOf, initialOf, instructionAt, instructionsOf, pairsOf, executionOf}
@@ -26,44 +26,43 @@ use Rattle.relation_places.specs.Places.{placeFrom, placed}
 use Rattle.search_sets.specs.Set.{holds}
 use Rattle.search_admit.specs.Rows.{field, writes, partner, covers, dataBit, awaitedBy, RowOf, RowsMean}
 use Rattle.search_claim.specs.NextRow.{k2Operations, k2Marks}
-use Rattle.search_claim.proofs.NextRow.{same, equal-two, bytes-are, places-are}
+use Rattle.search_claim.proofs.NextRow.{same, same-words, equal-two, bytes-are, places-are}
 use Rattle.read_value_claim.specs.ReadValueRow.{wide, wideArrays, wideRows, ReadValueRow}
 
 -- the record is accepted, and the arrays hold its execution
 accepts : (v : ℕ) → readAll (wide v) ≡ says (executionOf (wide v) wideArrays)
-unfolding all for count below member attributes roles operationCount next item byte ask question2 question3 question4 question5 question6 question7 question8 question26 question9 question11 question12 question15 many lineOf readLine readLines instructionOf readInstruction readProgram readPrograms readInstructions readPairs readRecord answerOf readAll recordOf dataOf seenOf wroteOf decodedLine linesOf instructionAt instructionsOf pairsOf executionOf wideArrays wide
+unfolding all for count below member attributes roles operationCount linesFrom next item byte ask question2 question3 question4 question5 question6 question7 question8 question26 question27 question9 question11 question12 question15 many lineOf readLine readLines instructionOf readInstruction readProgram readPrograms readInstructions readPairs readRecord answerOf readAll recordOf dataOf seenOf wroteOf decodedLine linesOf instructionAt instructionsOf pairsOf executionOf wideArrays wide
 accepts v = refl
 
 -- the table of operations, and the marks
 compiles : (v : ℕ) → CompiledIn (wide v) wideArrays k2Operations k2Marks
-unfolding any for count below member allBelow packed packedOn roles remotesAt placeAmong operationCount operations operationsOf allOperations lineAt attributeAt addresses accesses overlap conflict executionOf linesOf decodedLine instructionsOf instructionAt pairsOf operationAt tableOf ruleMarks marks earlierOf givenPair marksOf marksBetween wideArrays k2Operations k2Marks
+unfolding any keep for count below member allBelow packed packedOn roles remotesAt placeAmong operationCount operations operationsOf allOperations lineAt attributeAt addresses accesses sharedBytes overlap conflict executionOf linesOf decodedLine instructionsOf instructionAt pairsOf operationAt tableOf ruleMarks marks earlierOf givenPair marksOf marksBetween wideArrays k2Operations k2Marks
 compiles v = record { tabled = record { holds = refl; counts = refl }; marked = equal-two _ _ 2 2 refl }
 
 -- what the row of operation o has of the data: one computed test each
 abbrev writtenTest : ℕ → ℕ → Bool
 writtenTest v o =
-    allBelow 64 (λ i. Bool·beq (bit (field (wideRows v) 9 o) i) (writes (getD (k2Operations .roles) o 0) && dataBit (wide v) wideArrays (getD (k2Operations .owners) o 0) (writtenFrom (kindOf (getD (wideArrays .instructions .kinds) (getD (k2Operations .owners) o 0) 0))) i))
+    allBelow 2 (λ h. allBelow 64 (λ i. Bool·beq (bit (field (wideRows v) (10 + h) o) i) (writes (getD (k2Operations .roles) o 0) && dataBit (wide v) wideArrays (getD (k2Operations .owners) o 0) (writtenFrom (kindOf (getD (wideArrays .instructions .kinds) (getD (k2Operations .owners) o 0) 0))) (64 * h + i))))
 
 abbrev seenTest : ℕ → ℕ → Bool
 seenTest v o =
-    allBelow 64 (λ i. Bool·beq (bit (field (wideRows v) 12 o) i) (eqb (getD (k2Operations .roles) o 0) 0 && dataBit (wide v) wideArrays (getD (k2Operations .owners) o 0) 0 i))
+    allBelow 2 (λ h. allBelow 64 (λ i. Bool·beq (bit (field (wideRows v) (15 + h) o) i) (eqb (getD (k2Operations .roles) o 0) 0 && dataBit (wide v) wideArrays (getD (k2Operations .owners) o 0) 0 (64 * h + i))))
 
 -- the row of each operation
 row-of : (v : ℕ) → allBelow 3 (writtenTest v) ≡ true → allBelow 3 (seenTest v) ≡ true
     → (o : ℕ) → o < 3 → RowOf wideArrays k2Operations k2Marks o (wide v) (λ f. field (wideRows v) f o)
-unfolding any allBelow anyBelow operationCount operations roles remotesAt placeAmong stores keep count below attributeAt lineAt addresses accesses overlap link1 link2 link3 link4 link5 link6 link7 paired link8 link13 link15 linked executionOf linesOf decodedLine instructionsOf instructionAt pairsOf operationAt holds partner covers dataBit awaitedBy wideArrays k2Operations k2Marks wideRows for initialOf recordOf
+unfolding any allBelow anyBelow operationCount operations roles remotesAt placeAmong stores keep count below attributeAt lineAt addresses accesses sharedBytes overlap link1 link2 link3 link4 link5 link6 link7 paired link8 link13 link15 linked executionOf linesOf decodedLine instructionsOf instructionAt pairsOf operationAt holds partner covers dataBit awaitedBy wideArrays k2Operations k2Marks wideRows for initialOf recordOf
 row-of v written seen zero h = record {
   preds-are = same _ _ 128 refl;
   partners-are = same _ _ 128 refl;
   awaited-are = same _ _ 128 refl;
   bypasses-are = same _ _ 128 refl;
-  writes-bits = same _ _ 64 refl;
-  writes-data = same _ _ 64 (all-at (writtenTest v) 3 written zero h);
+  writes-bits = same-words _ _ refl;
+  writes-data = same-words _ _ (all-at (writtenTest v) 3 written zero h);
   writes-word = λ w. refl;
-  reads-bits = same _ _ 64 refl;
-  reads-data = same _ _ 64 (all-at (seenTest v) 3 seen zero h);
+  reads-bits = same-words _ _ refl;
+  reads-data = same-words _ _ (all-at (seenTest v) 3 seen zero h);
   reads-visible = λ r. refl;
-  reads-own = λ r. refl;
   own-is = refl;
   local-is = refl;
   read-is = refl;
@@ -73,13 +72,12 @@ row-of v written seen (suc zero) h = record {
   partners-are = same _ _ 128 refl;
   awaited-are = same _ _ 128 refl;
   bypasses-are = same _ _ 128 refl;
-  writes-bits = same _ _ 64 refl;
-  writes-data = same _ _ 64 (all-at (writtenTest v) 3 written (suc zero) h);
+  writes-bits = same-words _ _ refl;
+  writes-data = same-words _ _ (all-at (writtenTest v) 3 written (suc zero) h);
   writes-word = λ w. refl;
-  reads-bits = same _ _ 64 refl;
-  reads-data = same _ _ 64 (all-at (seenTest v) 3 seen (suc zero) h);
+  reads-bits = same-words _ _ refl;
+  reads-data = same-words _ _ (all-at (seenTest v) 3 seen (suc zero) h);
   reads-visible = λ r. refl;
-  reads-own = λ r. refl;
   own-is = refl;
   local-is = refl;
   read-is = refl;
@@ -89,13 +87,12 @@ row-of v written seen (suc (suc zero)) h = record {
   partners-are = same _ _ 128 refl;
   awaited-are = same _ _ 128 refl;
   bypasses-are = same _ _ 128 refl;
-  writes-bits = same _ _ 64 refl;
-  writes-data = same _ _ 64 (all-at (writtenTest v) 3 written (suc (suc zero)) h);
+  writes-bits = same-words _ _ refl;
+  writes-data = same-words _ _ (all-at (writtenTest v) 3 written (suc (suc zero)) h);
   writes-word = λ w. absurd (false≢true w);
-  reads-bits = same _ _ 64 refl;
-  reads-data = same _ _ 64 (all-at (seenTest v) 3 seen (suc (suc zero)) h);
+  reads-bits = same-words _ _ refl;
+  reads-data = same-words _ _ (all-at (seenTest v) 3 seen (suc (suc zero)) h);
   reads-visible = λ r. refl;
-  reads-own = λ r. refl;
   own-is = refl;
   local-is = refl;
   read-is = refl;

@@ -1,5 +1,5 @@
 -- P4, of the tests of one byte of a load that the judge and the search make. (`OneInitialByte` in `model` says it of the definitions.)
-use Prim.Native.Nat.{ℕ, _-_, _/_, _%_}
+use Prim.Native.Nat.{ℕ, _+_, _-_, _/_, _%_}
 use mathlib.Core.Path.{_≡_}
 use mathlib.Core.Bool.{true}
 use mathlib.Core.List.{List, [], List·Memᴰ}
@@ -23,22 +23,23 @@ JudgedAlike b bytes others x y l =
     (n : ℕ) (xs places : List ℕ) → Placed n xs places
     → sightBroken bytes x places (l .number) (b - l .address) ≡ sightBroken others y places (l .number) (b - l .address)
 
--- What two tables of rows have of a bit that operation o reads, behind the prefix xs: in its row, in the words of memory that it reads, and the test of the bit
-pub record SameBit (rows otherRows xs : List ℕ) (lo hi o i : ℕ) : Type 0 where
-  pub read : bit (readBits rows o) i ≡ bit (readBits otherRows o) i
-  pub recorded : bit (readData rows o) i ≡ bit (readData otherRows o) i
-  pub visible : bit (getD (wordsAfter rows xs) (visibleWord rows o) 0) i ≡ bit (getD (wordsAfter otherRows xs) (visibleWord otherRows o) 0) i
-  pub own : bit (getD (wordsAfter rows xs) (ownWord rows o) 0) i ≡ bit (getD (wordsAfter otherRows xs) (ownWord otherRows o) 0) i
-  pub tested : bitRecorded rows lo hi (wordsAfter rows xs) o i ≡ bitRecorded otherRows lo hi (wordsAfter otherRows xs) o i
+-- What two tables of rows have of a bit that operation o reads of its word h, behind the prefix xs: in its row, in the words of memory that it reads, and the
+-- test of the bit
+pub record SameBit (rows otherRows xs : List ℕ) (lo hi h o i : ℕ) : Type 0 where
+  pub read : bit (readBits rows h o) i ≡ bit (readBits otherRows h o) i
+  pub recorded : bit (readData rows h o) i ≡ bit (readData otherRows h o) i
+  pub visible : bit (getD (wordsAfter rows xs) (visibleWord rows h o) 0) i ≡ bit (getD (wordsAfter otherRows xs) (visibleWord otherRows h o) 0) i
+  pub own : bit (getD (wordsAfter rows xs) (ownWord rows h o) 0) i ≡ bit (getD (wordsAfter otherRows xs) (ownWord otherRows h o) 0) i
+  pub tested : bitRecorded rows lo hi (wordsAfter rows xs) h o i ≡ bitRecorded otherRows lo hi (wordsAfter otherRows xs) h o i
 
--- The search's test of the load's byte at address b, bit by bit, behind every prefix of different operations
+-- The search's test of the load's byte at address b, which is h lines behind the load's first, bit by bit, behind every prefix of different operations
 abbrev pub SearchedAlike : ℕ → List ℕ → List ℕ → Execution → Execution → Instruction → Type 0
 SearchedAlike b bytes others x y l =
     (t u : Operations) (marks otherMarks : List (List ℕ)) (rows otherRows : List ℕ)
     → RowsMean bytes x t marks rows → RowsMean others y u otherMarks otherRows
     → (xs : List ℕ) → distinct (operations (executionOf bytes x)) [] xs ≡ true
     → (lo hi : ℕ) → Standing xs lo hi
-    → (i : ℕ) → i / 8 ≡ b % 8 → SameBit rows otherRows xs lo hi (numberOf l R) i
+    → (h i : ℕ) → b / 8 ≡ l .address / 8 + h → i / 8 ≡ b % 8 → SameBit rows otherRows xs lo hi h (numberOf l R) i
 
 -- For every load and each of its bytes, in any two accepted records that differ only in other initial bytes, both tests give the same answer for every prefix.
 abbrev pub OneInitialByteTested : Type 0

@@ -3,7 +3,7 @@ use Prim.Native.Nat.{ℕ, _+_, _*_, _≤_}
 use mathlib.Core.Path.{_≡_}
 use mathlib.Core.List.{List, [], _∷_, _++_}
 use lib.ListN.{length, getD, take, drop}
-use Rattle.model.specs.Questions.{Found, no-to, found, entryLength, moreLength, instructionOf, readInstruction}
+use Rattle.model.specs.Questions.{Found, no-to, found, entryLength, moreLength, writtenFrom, instructionOf, readInstruction}
 use Rattle.model.specs.Execution.{Attribute, kindOf, Instruction, operationCount}
 use Rattle.record_decoded.specs.Decoded.{instructionsOf, Counted}
 use Rattle.record_decoded.specs.declared.types.Instructions.{Instructions}
@@ -35,22 +35,26 @@ pub record Answered {A : Type 0} (walk : Found A) (part : List ℕ) (at size : �
   pub long : (n : ℕ) → asked ≡ Pass n → n ≡ size
   pub ends : (n : ℕ) → asked ≡ Pass n → at + n ≤ length part
 
--- how many bytes the instruction at `at` has, by its kind, and these bytes
+-- how many bytes the instruction at `at` has, by its kind and its size, and these bytes
 abbrev pub entryLengthAt : List ℕ → ℕ → ℕ
-entryLengthAt part at = entryLength + moreLength (kindOf (getD part at 0))
+entryLengthAt part at = entryLength + moreLength (kindOf (getD part at 0)) (getD part (at + 2) 0)
 
 abbrev pub entryAt : List ℕ → ℕ → List ℕ
 entryAt part at = take (entryLengthAt part at) (drop at part)
 
--- they end within the part, and the size that they give is at most 8
-abbrev pub EntryThere : List ℕ → ℕ → Type 0
-EntryThere part at = (at + entryLengthAt part at ≤ length part) × (getD part (at + 2) 0 ≤ 8)
+-- what the instruction saw and what it wrote, of the size that it gives, lie among its data bytes
+abbrev pub DataWithin : List ℕ → ℕ → Type 0
+DataWithin part at = 3 + writtenFrom (kindOf (getD part at 0)) + getD part (at + 2) 0 ≤ entryLengthAt part at
 
--- The questions of the instruction at `at`. One that passes has a size of at most 8.
+-- its bytes end within the part, and its data among them
+abbrev pub EntryThere : List ℕ → ℕ → Type 0
+EntryThere part at = (at + entryLengthAt part at ≤ length part) × DataWithin part at
+
+-- The questions of the instruction at `at`. One that passes has its data among its bytes.
 pub record EntryAnswered (processors : ℕ) (lines : List Attribute) (p : ℕ) (done : List Instruction) (part : List ℕ) (at : ℕ) (asked : Asked) : Type 0 where
   pub answered : Answered (readInstruction processors lines p done (drop at part)) part at (entryLengthAt part at) asked
       (instructionOf processors p done (entryAt part at))
-  pub small : (n : ℕ) → asked ≡ Pass n → getD part (at + 2) 0 ≤ 8
+  pub data-within : (n : ℕ) → asked ≡ Pass n → DataWithin part at
 
 -- A walk over instructions, whose arrays stay counted
 pub record InstructionsComeTo (processors : ℕ) (walk : Found (List Instruction)) (part : List ℕ) (step : Step) (value : Instructions) : Type 0 where

@@ -2,11 +2,12 @@
 ghost use mathlib.Core.Path.{_≡_};
 ghost use Prim.Native.Nat.{ℕ, _<_, _≤_};
 ghost use lib.ListN.{length, getD};
-ghost use Rattle.model.specs.Execution.{F, kindOf, kindRow, attributeOf, isLoad, isStore, isSemaphore, isOnlyStore, isRelease, isFence, roles, remotesAt, numberFrom};
+ghost use Rattle.model.specs.Execution.{F, kindOf, kindRow, attributeNumber, attributeOf, isLoad, isStore, isSemaphore, isOnlyStore, isRelease, isFence, roles, remotesAt, numberFrom};
 ghost use Rattle.model.specs.Questions.{question4, writtenFrom};
 ghost use Rattle.record_decoded.specs.Kinds.{meant, RowNumber, roleMeant, roleProcessor, roleNumbered, attributeMeant};
 use crate::types::OperationNo;
 use crate::types::VALUE_LENGTH;
+use crate::types::wide;
 use crate::types::wide16;
 
 pub enum Kind {
@@ -289,4 +290,15 @@ pub fn attribute_of(a: u8) -> Attribute
         return Attribute::UC(a / PER_DOMAIN);
     }
     Attribute::WC
+}
+
+// The number of an attribute.
+pub fn attribute_number(a: Attribute) -> usize
+    ensures { λ r. ⌜ r ≡ attributeNumber (attributeMeant a) ⌝ }
+{
+    match a {
+        Attribute::WB => NUMBER_WB as usize,
+        Attribute::UC(d) => NUMBER_UC as usize + PER_DOMAIN as usize * wide(d),
+        Attribute::WC => NUMBER_WC as usize,
+    }
 }

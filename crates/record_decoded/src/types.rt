@@ -9,8 +9,11 @@ pub const LINE_LENGTH: usize = 9;
 
 pub const ENTRY_LENGTH: usize = 11;
 
-// The data bytes of one value. A semaphore's entry has those of a second one, the value written, behind the others.
+// The data bytes of one value. Behind them the entry of a semaphore has those of a second one, the value written, and that of an access of WIDE_SIZE those of
+// the upper half.
 pub const VALUE_LENGTH: usize = 8;
+
+pub const WIDE_SIZE: u8 = 16;
 
 pub const PAIR_LENGTH: usize = 2;
 
@@ -23,7 +26,7 @@ pub const MOST_INSTRUCTIONS: usize = 40;
 
 pub const MOST_PAIRS: u8 = 40;
 
-// The data bytes of an instruction in the arrays: those seen or written, in a semaphore those seen and then those written.
+// The data bytes of an instruction in the arrays: those seen or written, of an access of WIDE_SIZE both halves; in a semaphore those seen and then those written.
 pub const DATA_STRIDE: usize = 16;
 
 // The number of an instruction, from 0 through the record.

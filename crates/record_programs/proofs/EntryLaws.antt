@@ -1,8 +1,8 @@
 -- The questions of an instruction.
-use Prim.Native.Nat.{ℕ, _+_, _-_, _*_, _%_, _≤_, _<_}
+use Prim.Native.Nat.{ℕ, _+_, _-_, _*_, _/_, _%_, _≤_, _<_}
 use native.Mathlib.Omega.{arith}
 use mathlib.Core.Path.{_≡_, refl, sym, ap, ap₂, _∙_}
-use mathlib.Core.Bool.{true, false, _&&_, or-false}
+use mathlib.Core.Bool.{Bool, true, false, not, cond, _&&_, or-false}
 use mathlib.Core.List.{List, [], _∷_, _++_}
 use lib.ListN.{length, getD, take, drop, length-take, length-drop, drop-of-length-le}
 use lib.Seq.{length-take-le, take-add, drop-drop}
@@ -12,10 +12,10 @@ use Rattle.base.specs.Lists.{all, member}
 use Rattle.base.specs.Below.{allBelow}
 use Rattle.base.proofs.Bools.{eqb-swap}
 use Rattle.base.proofs.Lists.{member-in, all-member}
-use Rattle.base.proofs.Tests.{all-same, all-elements}
-use Rattle.model.specs.Execution.{Kind, Attribute, Instruction, kindOf, isFence}
-use Rattle.model.proofs.Accepted.{size-small}
-use Rattle.model.specs.Questions.{no-to, found, question6, question7, question8, question26, question9, moreLength, instructionOf, readInstruction, next, item, ask}
+use Rattle.base.proofs.Tests.{all-same, all-elements, all-count}
+use Rattle.model.specs.Execution.{Kind, Attribute, WC, attributeNumber, Instruction, kindOf, isFence, isSemaphore, linesFrom}
+use Rattle.model.proofs.Accepted.{data-within}
+use Rattle.model.specs.Questions.{no-to, found, question6, question7, question8, question26, question27, question9, moreLength, writtenFrom, instructionOf, readInstruction, next, item, ask}
 use Rattle.record_decoded.specs.declared.types.Asked.{Asked}
 use Rattle.record_decoded.specs.declared.types.Asked.the-variants.{Pass, Fail}
 use Rattle.record_decoded.specs.Steps.{EntryAnswered}
@@ -23,32 +23,49 @@ use Rattle.record_decoded.proofs.DataBytes.{drop-take, take-less}
 use Rattle.record_decoded.proofs.Items.{item-short, item-there, item-first, item-byte, fails, passes}
 
 -- question 7
-abbrev sizes : List ℕ
-sizes = 1 ∷ 2 ∷ 4 ∷ 8 ∷ []
-
 module _ (k : Kind) (size : ℕ) where
   pub fence-size : isFence k ≡ true → eqb size 0 ≡ question7 k size
   unfolding question7 member
   fence-size h = rw h (sym (or-false (eqb 0 size) ∙ eqb-swap 0 size))
 
-  pub size-known : (n : ℕ) → isFence k ≡ false → size ≡ n → member sizes n ≡ true → true ≡ question7 k size
-  unfolding question7
-  size-known n h e m = rw (h, e) (sym m)
+  -- the sizes of an access, by whether it is a semaphore
+  abbrev sizes : Bool → List ℕ
+  sizes semaphore = 1 ∷ 2 ∷ 4 ∷ 8 ∷ cond semaphore [] (16 ∷ [])
 
-  pub size-unknown : isFence k ≡ false → (size ≡ 1 → ⊥) → (size ≡ 2 → ⊥) → (size ≡ 4 → ⊥) → (size ≡ 8 → ⊥) → false ≡ question7 k size
+  pub size-known : (n : ℕ) → isFence k ≡ false → size ≡ n → ((b : Bool) → member (sizes b) n ≡ true) → true ≡ question7 k size
+  unfolding question7
+  size-known n h e m = rw (h, e) (sym (m (isSemaphore k)))
+
+  pub size-wide : isFence k ≡ false → size ≡ 16 → not (isSemaphore k) ≡ question7 k size
   unfolding question7 member
-  size-unknown h n1 n2 n4 n8 =
+  size-wide h e = rw (h, e) (last (isSemaphore k))
+    where
+      last : (b : Bool) → not b ≡ member (sizes b) 16
+      last true = refl
+      last false = refl
+
+  pub size-unknown : isFence k ≡ false → (size ≡ 1 → ⊥) → (size ≡ 2 → ⊥) → (size ≡ 4 → ⊥) → (size ≡ 8 → ⊥) → (size ≡ 16 → ⊥) → false ≡ question7 k size
+  unfolding question7 member
+  size-unknown h n1 n2 n4 n8 n16 =
       rw (
         h,
         ne-eqb 1 size (λ e. n1 (sym e)),
         ne-eqb 2 size (λ e. n2 (sym e)),
         ne-eqb 4 size (λ e. n4 (sym e)),
         ne-eqb 8 size (λ e. n8 (sym e)),
-      )
+      ) (last (isSemaphore k))
+    where
+      last : (b : Bool) → false ≡ member (cond b [] (16 ∷ [])) size
+      last true = refl
+      last false = rw (ne-eqb 16 size (λ e. n16 (sym e)))
 
   pub size-positive : isFence k ≡ false → question7 k size ≡ true → 0 < size
   unfolding question7 all
-  size-positive h q = ltb-true 0 size (all-member (λ n. ltb 0 n) (member-in sizes size (rw h at q)) refl)
+  size-positive h q = ltb-true 0 size (all-member (λ n. ltb 0 n) (member-in (sizes (isSemaphore k)) size (rw h at q)) (each (isSemaphore k)))
+    where
+      each : (b : Bool) → all (λ n. ltb 0 n) (sizes b) ≡ true
+      each true = refl
+      each false = refl
 
   -- question 8
   module _ (lines address : ℕ) where
@@ -63,6 +80,13 @@ module _ (k : Kind) (size : ℕ) where
     pub address-on : isFence k ≡ false → address % size ≡ 0 → leb (address + size) (8 * lines) ≡ question8 lines k size address
     unfolding question8
     address-on h e = rw (h, eq-eqb (address % size) 0 e)
+
+-- question 27, by index
+pub lines-by-index : (lines : List Attribute) (size address first n number : ℕ) → first ≡ address / 8 → n ≡ (size + 7) / 8 → number ≡ attributeNumber (getD lines first WC)
+    → allBelow n (λ i. eqb (attributeNumber (getD lines (first + i) WC)) number) ≡ question27 lines size address
+unfolding question27 linesFrom
+lines-by-index lines size address first n number f c m =
+    rw (m, c, f) (all-count (λ k. eqb (attributeNumber (getD lines k WC)) (attributeNumber (getD lines (address / 8) WC))) (address / 8) ((size + 7) / 8))
 
 -- bytes that are zero, by index
 pub zeros-by-index : (part : List ℕ) (from n : ℕ) → from + n ≤ length part
@@ -118,7 +142,7 @@ module _ (part : List ℕ) (at : ℕ) (lines : List Attribute) (processors p : �
 
   -- a question that fails
   refused : {q : ℕ} → readInstruction processors lines p done (drop at part) ≡ no-to q → Asks (Fail q)
-  refused h = record { answered = fails h; small = λ n e. let z : _≡_ {A = ℕ} 0 1 = cc in absurd (omega arith) }
+  refused h = record { answered = fails h; data-within = λ n e. let z : _≡_ {A = ℕ} 0 1 = cc in absurd (omega arith) }
 
   pub entry-short : length part - at < 11 → Asks (Fail 1)
   unfolding readInstruction next
@@ -151,13 +175,13 @@ module _ (part : List ℕ) (at : ℕ) (lines : List Attribute) (processors p : �
       entry-size h = refused (rw (item-there 11 at part room, six, kind, byte2, h))
 
       module _ (seven : question7 k size ≡ true) where
-        pub entry-cut : length part - at < 11 + moreLength k → Asks (Fail 1)
+        pub entry-cut : length part - at < 11 + moreLength k size → Asks (Fail 1)
         unfolding readInstruction next ask
-        entry-cut h = refused (rw (item-there 11 at part room, six, kind, byte2, seven, item-short (moreLength k) (at + 11) part (omega arith)))
+        entry-cut h = refused (rw (item-there 11 at part room, six, kind, byte2, seven, item-short (moreLength k size) (at + 11) part (omega arith)))
 
-        module _ (whole : at + (11 + moreLength k) ≤ length part) where
-          further : item (moreLength k) (drop (at + 11) part) ≡ found (take (moreLength k) (drop (at + 11) part)) (drop (at + 11 + moreLength k) part)
-          further = item-there (moreLength k) (at + 11) part (omega arith)
+        module _ (whole : at + (11 + moreLength k size) ≤ length part) where
+          further : item (moreLength k size) (drop (at + 11) part) ≡ found (take (moreLength k size) (drop (at + 11) part)) (drop (at + 11 + moreLength k size) part)
+          further = item-there (moreLength k size) (at + 11) part (omega arith)
 
           pub entry-address : question8 (length lines) k size (getD part (at + 1) 0) ≡ false → Asks (Fail 8)
           unfolding readInstruction next ask
@@ -169,23 +193,28 @@ module _ (part : List ℕ) (at : ℕ) (lines : List Attribute) (processors p : �
             entry-line h = refused (rw (item-there 11 at part room, six, kind, byte2, byte1, seven, further, eight, h))
 
             module _ (wb : question26 lines k (getD part (at + 1) 0) ≡ true) where
-              -- both items together
-              joined : entry ++ take (moreLength k) (drop (at + 11) part) ≡ take (11 + moreLength k) (drop at part)
-              joined = sym (take-add 11 (moreLength k) (drop at part) ∙ ap (λ (l : List ℕ). entry ++ take (moreLength k) l) (drop-drop 11 at part))
-
-              data-there : drop 3 (entry ++ take (moreLength k) (drop (at + 11) part)) ≡ take (8 + moreLength k) (drop (at + 3) part)
-              data-there =
-                  let eleven : 11 + moreLength k ≡ 3 + (8 + moreLength k) = omega arith in
-                  ap (drop 3) joined ∙ ap (λ (n : ℕ). drop 3 (take n (drop at part))) eleven ∙ drop-take 3 (8 + moreLength k) (drop at part) ∙ ap (take (8 + moreLength k)) (drop-drop 3 at part)
-
-              pub entry-data : question9 size (take (8 + moreLength k) (drop (at + 3) part)) ≡ false → Asks (Fail 9)
+              pub entry-lines : question27 lines size (getD part (at + 1) 0) ≡ false → Asks (Fail 27)
               unfolding readInstruction next ask
-              entry-data h = refused (rw (item-there 11 at part room, six, kind, byte2, byte1, seven, further, eight, wb, data-there, h))
+              entry-lines h = refused (rw (item-there 11 at part room, six, kind, byte2, byte1, seven, further, eight, wb, h))
 
-              pub entry-passes : question9 size (take (8 + moreLength k) (drop (at + 3) part)) ≡ true → Asks (Pass (11 + moreLength k))
-              unfolding readInstruction next ask
-              entry-passes h = record {
-                answered = rw (← is) (passes (rw (item-there 11 at part room, six, kind, byte2, byte1, seven, further, eight, wb, data-there, h, joined)
-                    (ap (λ (n : ℕ). found (instructionOf processors p done (take (11 + moreLength k) (drop at part))) (drop n part)) (let z : at + 11 + moreLength k ≡ at + (11 + moreLength k) = omega arith in z))) whole);
-                small = λ n e. size-small k size seven;
-              }
+              module _ (same : question27 lines size (getD part (at + 1) 0) ≡ true) where
+                -- both items together
+                joined : entry ++ take (moreLength k size) (drop (at + 11) part) ≡ take (11 + moreLength k size) (drop at part)
+                joined = sym (take-add 11 (moreLength k size) (drop at part) ∙ ap (λ (l : List ℕ). entry ++ take (moreLength k size) l) (drop-drop 11 at part))
+
+                data-there : drop 3 (entry ++ take (moreLength k size) (drop (at + 11) part)) ≡ take (8 + moreLength k size) (drop (at + 3) part)
+                data-there =
+                    let eleven : 11 + moreLength k size ≡ 3 + (8 + moreLength k size) = omega arith in
+                    ap (drop 3) joined ∙ ap (λ (n : ℕ). drop 3 (take n (drop at part))) eleven ∙ drop-take 3 (8 + moreLength k size) (drop at part) ∙ ap (take (8 + moreLength k size)) (drop-drop 3 at part)
+
+                pub entry-data : question9 size (take (8 + moreLength k size) (drop (at + 3) part)) ≡ false → Asks (Fail 9)
+                unfolding readInstruction next ask
+                entry-data h = refused (rw (item-there 11 at part room, six, kind, byte2, byte1, seven, further, eight, wb, same, data-there, h))
+
+                pub entry-passes : question9 size (take (8 + moreLength k size) (drop (at + 3) part)) ≡ true → Asks (Pass (11 + moreLength k size))
+                unfolding readInstruction next ask
+                entry-passes h = record {
+                  answered = rw (← is) (passes (rw (item-there 11 at part room, six, kind, byte2, byte1, seven, further, eight, wb, same, data-there, h, joined)
+                      (ap (λ (n : ℕ). found (instructionOf processors p done (take (11 + moreLength k size) (drop at part))) (drop n part)) (let z : at + 11 + moreLength k size ≡ at + (11 + moreLength k size) = omega arith in z))) whole);
+                  data-within = λ n e. omega (arith, data-within k size seven, ap writtenFrom is, ap (λ (j : Kind). moreLength j size) is);
+                }

@@ -7,7 +7,7 @@ ghost use lib.ListN.{length, take, drop};
 ghost use lib.Dec.{eqb};
 ghost use Rattle.base.specs.Lists.{all};
 ghost use Rattle.model.specs.Execution.{Instruction, operationCount};
-ghost use Rattle.model.specs.Questions.{moreLength, question7, question8, question9, question26, instructionOf, readInstruction, readProgram, readPrograms, readInstructions, many};
+ghost use Rattle.model.specs.Questions.{moreLength, question7, question8, question9, question26, question27, instructionOf, readInstruction, readProgram, readPrograms, readInstructions, many};
 ghost use Rattle.record_decoded.specs.Kinds.{meant};
 ghost use Rattle.record_decoded.specs.Decoded.{attributesOf, instructionsOf, Counted};
 ghost use Rattle.record_decoded.specs.Steps.{entryAt, EntryThere, EntryAnswered, InstructionsComeTo, InstructionMore};
@@ -19,6 +19,7 @@ use record_decoded::kind::kind_of;
 use record_decoded::kind::operation_count;
 use record_decoded::memory::attribute_in;
 use record_decoded::memory::is_wb;
+use record_decoded::memory::number_at_line;
 use record_decoded::position::Position;
 use record_decoded::types::Asked;
 use record_decoded::types::DATA_STRIDE;
@@ -28,6 +29,7 @@ use record_decoded::types::Lines;
 use record_decoded::types::MOST_INSTRUCTIONS;
 use record_decoded::types::Step;
 use record_decoded::types::VALUE_LENGTH;
+use record_decoded::types::WIDE_SIZE;
 use record_decoded::types::copy_bytes;
 use record_decoded::types::wide;
 
@@ -63,6 +65,7 @@ fn size_passes(k: Kind, size: u8) -> bool
         2 => true,
         4 => true,
         8 => true,
+        WIDE_SIZE => !is_semaphore(k),
         _ => false,
     }
 }
@@ -79,11 +82,30 @@ fn line_passes(lines: Lines, k: Kind, address: u8) -> bool
     }
 }
 
-// The bytes that an instruction has after the first eleven.
-fn more_length(k: Kind) -> usize
-    ensures { λ r. ⌜ (r ≡ moreLength (meant k)) × (r ≤ 8) ⌝ }
+// Question 27, over the lines of the access.
+fn one_attribute(lines: Lines, size: u8, address: u8) -> bool
+    requires { ⌜ lines .count ≤ 8 ⌝ }
+    ensures { λ r. ⌜ r ≡ question27 (attributesOf lines) size address ⌝ }
 {
-    if is_semaphore(k) { VALUE_LENGTH } else { 0 }
+    let first = wide(address) / 8;
+    let count = (wide(size) + 7) / 8;
+    let number = number_at_line(lines, first);
+    for i in 0..count {
+        if number_at_line(lines, first + i) != number {
+            return false;
+        }
+    }
+    true
+}
+
+// The bytes that an instruction has after the first eleven.
+fn more_length(k: Kind, size: u8) -> usize
+    ensures { λ r. ⌜ (r ≡ moreLength (meant k) size) × (r ≤ 8) ⌝ }
+{
+    if is_semaphore(k) {
+        return VALUE_LENGTH;
+    }
+    if size == WIDE_SIZE { VALUE_LENGTH } else { 0 }
 }
 
 // Question 8, of a size that passes question 7.
@@ -154,7 +176,7 @@ fn instruction_question(part: &[u8], at: usize, lines: Lines) -> Asked
     if !size_passes(kind, size) {
         return Asked::Fail(7);
     }
-    let more = more_length(kind);
+    let more = more_length(kind, size);
     let length = ENTRY_LENGTH + more;
     if part.len() - at < length {
         return Asked::Fail(1);
@@ -165,6 +187,9 @@ fn instruction_question(part: &[u8], at: usize, lines: Lines) -> Asked
     }
     if !line_passes(lines, kind, address) {
         return Asked::Fail(26);
+    }
+    if !one_attribute(lines, size, address) {
+        return Asked::Fail(27);
     }
     if !data_passes(part, at + 3, more, size as usize) {
         return Asked::Fail(9);
@@ -191,13 +216,14 @@ fn with_instruction(
     let mut firsts = x.firsts;
     let mut bytes = x.bytes;
     let kind = kind_of(part[at]);
+    let size = part[at + 2];
     let first = x.operations;
     processor[i] = p;
     kinds[i] = part[at];
     addresses[i] = part[at + 1];
-    sizes[i] = part[at + 2];
+    sizes[i] = size;
     firsts[i] = first as u16;
-    let data = VALUE_LENGTH + more_length(kind);
+    let data = VALUE_LENGTH + more_length(kind, size);
     copy_bytes(&mut bytes, DATA_STRIDE * i, part, at + 3, data);
     let count = i + 1;
     let operations = first + operation_count(kind, processors);

@@ -2,15 +2,13 @@
 use Prim.Native.Nat.{ℕ, _≤_, _<_}
 use native.Mathlib.Omega.{arith}
 use mathlib.Core.Path.{_≡_, sym, ap, _∙_, subst}
-use mathlib.Core.Bool.{true}
 use mathlib.Core.List.{List, List·Memᴰ, Memᴰ·map, Memᴰ·of-map}
 use lib.ListN.{length, getD, drop, length-map}
 use Rattle.base.specs.Lists.{for, below}
 use Rattle.base.proofs.Lists.{length-count, in-below, of-below}
 use Rattle.model.specs.Execution as model
 use Rattle.model.specs.Execution.{roles, numberOf, operationCount, operations, operationsOf, allOperations}
-use Rattle.model.specs.Questions.{question26}
-use Rattle.model.specs.Accepted.{Consecutive, Sound, Each, Accepted}
+use Rattle.model.specs.Accepted.{Consecutive, Sound, SoundLines, Each, Accepted}
 use Rattle.record_decoded.specs.declared.types.Execution.{Execution}
 use Rattle.record_decoded.specs.Kinds.{roleNumbered}
 use Rattle.record_decoded.specs.Decoded.{linesOf, pairAt, pairsOf, instructionAt, instructionsOf, executionOf}
@@ -109,8 +107,8 @@ accepted-anyhow bytes x a others = record {
   pairs-few = a .pairs-few;
   consecutive = a .consecutive;
   sound = subst (λ (n : ℕ). Each (Sound (x .processors) n) (instructionsOf (x .instructions))) same (a .sound);
-  semaphores-passed = subst (λ (l : List model.Attribute). Each (λ i. question26 l (i .kind) (i .address) ≡ true) (instructionsOf (x .instructions)))
-      (attributes-are (drop 1 bytes) (x .lines) ∙ sym (attributes-are (drop 1 others) (x .lines))) (a .semaphores-passed);
+  sound-lines = subst (λ (l : List model.Attribute). Each (SoundLines l) (instructionsOf (x .instructions)))
+      (attributes-are (drop 1 bytes) (x .lines) ∙ sym (attributes-are (drop 1 others) (x .lines))) (a .sound-lines);
   rising = a .rising;
 }
   where

@@ -4,7 +4,7 @@ use mathlib.Core.Path.{_≡_, refl, sym, _∙_}
 use native.Mathlib.Omega.{arith}
 use mathlib.Core.Bool.{Bool, true, false, not, cond, _&&_, _||_, false≢true}
 use mathlib.Core.List.{List, [], _∷_}
-use lib.ListN.{getD, drop}
+use lib.ListN.{length, getD, drop}
 use lib.Dec.{eqb, ltb}
 use Rattle.base.specs.Lists.{member}
 use Rattle.base.specs.Bits.{packed, packedOn}
@@ -14,7 +14,7 @@ use Rattle.model.specs.ProgramOrder.{marks}
 use Rattle.model.specs.Rules.{conflict}
 use Rattle.record_decoded.specs.declared.types.Execution.{Execution}
 use Rattle.record_decoded.specs.Decoded.{linesOf, pairsOf, instructionAt, executionOf}
-use Rattle.relation_marks.specs.Marks.{sharesByte, givenPair, earlierOf, marksOf, marksBy, marksBetween}
+use Rattle.relation_marks.specs.Marks.{sharedBy, givenPair, earlierOf, marksOf, marksBy, marksBetween}
 use Rattle.relation_marks.proofs.MarkLaws.{overlap-shares}
 
 -- put together from the highest bit down
@@ -57,7 +57,7 @@ module _ (bytes : List ℕ) (x : Execution) (m n : ℕ) where
   facts : marksBetween (executionOf bytes x) (instructionAt (x .instructions) m) (instructionAt (x .instructions) n)
       ≡ marksBy (eqb m n) (eqb (getD (x .instructions .processors) m 0) (getD (x .instructions .processors) n 0))
       (eqb (getD (x .instructions .processors) m 0) (getD (x .instructions .processors) n 0) && ltb m n)
-      (sharesByte (getD (x .instructions .addresses) m 0) (getD (x .instructions .sizes) m 0) (getD (x .instructions .addresses) n 0) (getD (x .instructions .sizes) n 0))
+      (ltb 0 (length (sharedBy (getD (x .instructions .addresses) m 0) (getD (x .instructions .sizes) m 0) (getD (x .instructions .addresses) n 0) (getD (x .instructions .sizes) n 0))))
       (givenPair (pairsOf (x .pairs)) m n) (kindOf (getD (x .instructions .kinds) m 0)) (kindOf (getD (x .instructions .kinds) n 0))
       (getD (linesOf (drop 1 bytes) (x .lines)) (getD (x .instructions .addresses) m 0 / 8) noLine .attribute)
       (getD (linesOf (drop 1 bytes) (x .lines)) (getD (x .instructions .addresses) n 0 / 8) noLine .attribute)
@@ -69,7 +69,7 @@ module _ (bytes : List ℕ) (x : Execution) (m n : ℕ) where
       → same ≡ eqb m n → own ≡ eqb (getD (x .instructions .processors) m 0) (getD (x .instructions .processors) n 0) → earlier ≡ (own && ltb m n)
       → a ≡ kindOf (getD (x .instructions .kinds) m 0) → b ≡ kindOf (getD (x .instructions .kinds) n 0)
       → overlaps
-      ≡ sharesByte (getD (x .instructions .addresses) m 0) (getD (x .instructions .sizes) m 0) (getD (x .instructions .addresses) n 0) (getD (x .instructions .sizes) n 0)
+      ≡ ltb 0 (length (sharedBy (getD (x .instructions .addresses) m 0) (getD (x .instructions .sizes) m 0) (getD (x .instructions .addresses) n 0) (getD (x .instructions .sizes) n 0)))
       → of-a ≡ getD (linesOf (drop 1 bytes) (x .lines)) (getD (x .instructions .addresses) m 0 / 8) noLine .attribute
       → of-b ≡ getD (linesOf (drop 1 bytes) (x .lines)) (getD (x .instructions .addresses) n 0 / 8) noLine .attribute
       → given ≡ givenPair (pairsOf (x .pairs)) m n

@@ -1,51 +1,70 @@
 -- Laws of the marks of two instructions.
-use Prim.Native.Nat.{ℕ, _+_, _*_, min, max}
+use Prim.Native.Nat.{ℕ, zero, suc, _+_, _-_, _*_, min, max}
 use native.Mathlib.Omega.{arith}
-use mathlib.Core.Path.{_≡_, refl, sym, ap₂, _∙_}
-use mathlib.Core.Bool.{Bool, true, false, cond, _&&_}
+use mathlib.Core.Path.{_≡_, refl, sym, ap, ap₂, _∙_}
+use mathlib.Core.Bool.{Bool, false, cond, _&&_}
 use mathlib.Core.List.{List, [], _∷_}
-use lib.ListN.{getD}
+use lib.ListN.{length, getD}
 use lib.Dec.{eqb, leb, ltb}
-use borrow.Author.Tests.{le-leb, lt-ltb, leb-true, ltb-true, eqb-true}
-use Rattle.base.specs.Lists.{any, all, count, member}
+use borrow.Author.Tests.{lt-ltb, leb-true, leb-false, ltb-true, ltb-false, eqb-true}
+use Rattle.base.specs.Lists.{all, keep, count, member}
 use Rattle.base.specs.Bits.{packed, packedOn}
-use Rattle.base.proofs.Bools.{agree, and-parts, and-both}
+use Rattle.base.proofs.Bools.{split, agree}
 use Rattle.base.proofs.Bits.{bit-packed}
-use Rattle.base.proofs.Lists.{any-witness, any-member, all-member, in-count, of-count}
+use Rattle.base.proofs.Lists.{all-member, length-count}
 use Rattle.base.specs.Below.{anyBelow}
 use Rattle.base.proofs.Tests.{any-numbered}
 use Rattle.model.specs.Execution.{Kind, Instruction, kindRow}
 use Rattle.model.specs.ProgramOrder.{ruleMarks, marks}
 use Rattle.model.proofs.ProgramOrder.{kinds, listed}
-use Rattle.model.specs.Rules.{addresses, accesses, overlap}
+use Rattle.model.specs.Rules.{addresses, accesses, sharedBytes, overlap}
 use Rattle.record_decoded.specs.declared.types.Pairs.{Pairs}
 use Rattle.record_decoded.specs.Decoded.{pairAt, pairsOf}
-use Rattle.relation_marks.specs.Marks.{programMarks, sharesByte, givenPair, hasMark}
+use Rattle.relation_marks.specs.Marks.{programMarks, sharedBy, givenPair, hasMark}
 
--- two intervals meet where the later start is before the earlier end
-pub shares-meet : (address size other extent : ℕ) → ltb (max address other) (min (address + size) (other + extent)) ≡ sharesByte address size other extent
-unfolding sharesByte
-shares-meet address size other extent =
-    agree (ltb (max address other) (min (address + size) (other + extent))) (any (λ a. leb other a && ltb a (other + extent)) (count address size)) meet share
+-- the numbers of an interval that lie in another are those from the later start to the earlier end
+pub shared-are : (address size other extent : ℕ)
+    → sharedBy address size other extent ≡ count (max address other) (min (address + size) (other + extent) - max address other)
+unfolding sharedBy keep count
+shared-are address size other extent = both-in address size
   where
-    meet : ltb (max address other) (min (address + size) (other + extent)) ≡ true
-        → any (λ a. leb other a && ltb a (other + extent)) (count address size) ≡ true
-    meet h =
-        let l = ltb-true (max address other) (min (address + size) (other + extent)) h in
-        any-member (λ a. leb other a && ltb a (other + extent)) (in-count address size (max address other) (omega arith) (omega arith))
-        (and-both (le-leb other (max address other) (omega arith)) (lt-ltb (max address other) (other + extent) (omega arith)))
+    -- how many of n numbers from a start on
+    many : ℕ → ℕ → ℕ
+    many from n = min (from + n) (other + extent) - max from other
 
-    share : any (λ a. leb other a && ltb a (other + extent)) (count address size) ≡ true
-        → ltb (max address other) (min (address + size) (other + extent)) ≡ true
-    share h =
-        let (a, m, t) = any-witness (λ a. leb other a && ltb a (other + extent)) (count address size) h in
-        let (t1, t2) = and-parts (leb other a) (ltb a (other + extent)) t in
-        let (low, high) = of-count address size m in
-        lt-ltb (max address other) (min (address + size) (other + extent)) (omega (arith, leb-true other a t1, ltb-true a (other + extent) t2))
+    both-in : (from n : ℕ) → keep (λ a. leb other a && ltb a (other + extent)) (count from n) ≡ count (max from other) (many from n)
+    both-in from zero = let z : 0 ≡ many from 0 = omega arith in ap (count (max from other)) z
+    both-in from (suc n) =
+        split (leb other from)
+        (λ l.
+        let low = leb-true other from l in
+        split (ltb from (other + extent))
+        (λ h.
+        let high = ltb-true from (other + extent) h in
+        let next : max (suc from) other ≡ suc from = omega arith in
+        let here : from ≡ max from other = omega arith in
+        let one : suc (many (suc from) n) ≡ many from (suc n) = omega arith in
+        rw (l, h) (ap (λ (m : List ℕ). from ∷ m) (both-in (suc from) n ∙ ap (λ (k : ℕ). count k (many (suc from) n)) next) ∙ ap₂ count here one))
+        (λ h.
+        let high = ltb-false from (other + extent) h in
+        let none : many (suc from) n ≡ 0 = omega arith in
+        let nor : 0 ≡ many from (suc n) = omega arith in
+        rw (l, h) (both-in (suc from) n ∙ ap (count (max (suc from) other)) none ∙ ap (count (max from other)) nor)))
+        (λ l.
+        let low = leb-false other from l in
+        let next : max (suc from) other ≡ max from other = omega arith in
+        let all : many (suc from) n ≡ many from (suc n) = omega arith in
+        rw l (both-in (suc from) n ∙ ap₂ count next all))
+
+-- they are some where the start is before the end
+pub some-shared : (from end : ℕ) {l : List ℕ} → l ≡ count from (end - from) → ltb from end ≡ ltb 0 (length l)
+some-shared from end {l} e =
+    agree (ltb from end) (ltb 0 (end - from)) (λ h. lt-ltb 0 (end - from) (omega (arith, ltb-true from end h))) (λ h. lt-ltb from end (omega (arith, ltb-true 0 (end - from) h)))
+    ∙ sym (ap (ltb 0) (ap length e ∙ length-count from (end - from)))
 
 -- overlap is sharing a byte
-pub overlap-shares : (i j : Instruction) → overlap i j ≡ sharesByte (i .address) (i .size) (j .address) (j .size)
-unfolding overlap addresses accesses sharesByte
+pub overlap-shares : (i j : Instruction) → overlap i j ≡ ltb 0 (length (sharedBy (i .address) (i .size) (j .address) (j .size)))
+unfolding overlap sharedBytes addresses accesses sharedBy
 overlap-shares i j = refl
 
 -- the constant table of the code

@@ -4,7 +4,7 @@ use mathlib.Core.Bool.{Bool, false, not, _&&_, _||_}
 use mathlib.Core.List.{List, [], _∷_}
 use lib.ListN.{getD}
 use lib.Dec.{eqb, leb, ltb}
-use Rattle.base.specs.Lists.{any, count, member}
+use Rattle.base.specs.Lists.{any, keep, count, member}
 use Rattle.base.specs.Bits.{packed}
 use Rattle.model.specs.Execution.{Kind, Attribute, isLoad, isStore, isSemaphore, isRelease, isWB, isUC, sameDomain, Instruction, Execution}
 use Rattle.model.specs.ProgramOrder.{marks}
@@ -15,9 +15,9 @@ unfoldable pub programMarks : Kind → Kind → ℕ
 programMarks earlier later =
     packed (false ∷ member (marks earlier later) 2 ∷ member (marks earlier later) 3 ∷ member (marks earlier later) 4 ∷ [])
 
--- two accesses by address and size share a byte
-unfoldable pub sharesByte : ℕ → ℕ → ℕ → ℕ → Bool
-sharesByte address size other extent = any (λ a. leb other a && ltb a (other + extent)) (count address size)
+-- the bytes that two accesses share, each by its address and size
+unfoldable pub sharedBy : ℕ → ℕ → ℕ → ℕ → List ℕ
+sharedBy address size other extent = keep (λ a. leb other a && ltb a (other + extent)) (count address size)
 
 -- a mark is among those added up
 abbrev pub hasMark : ℕ → ℕ → Bool

@@ -23,7 +23,7 @@ use crate::table::both;
 use crate::table::either;
 use crate::table::has_mark;
 use crate::table::program_marks;
-use crate::table::shares_byte;
+use crate::table::shared_bytes;
 use crate::table::with_mark;
 use record_decoded::kind::Attribute;
 use record_decoded::kind::Kind;
@@ -160,7 +160,8 @@ fn marks_row(x: Execution, i: InstructionNo) -> [u16; MOST_INSTRUCTIONS]
         let own = processor == processors[k];
         let same = first == k;
         let earlier = both(own, first < k);
-        let overlaps = shares_byte(address, size, addresses[k], sizes[k]);
+        let shared = shared_bytes(address, size, addresses[k], sizes[k]);
+        let overlaps = shared.from < shared.end;
         let given = is_pair(x.pairs, i, InstructionNo(k));
         let b = kind_of(kinds[k]);
         let of_b = attribute_in(x.lines, addresses[k]);

@@ -1,9 +1,10 @@
 // Marks of two instructions, packed into one number; the table of the program-order rules.
 ghost use mathlib.Core.Path.{_≡_};
 ghost use mathlib.Core.Bool.{cond, _&&_, _||_};
-ghost use Prim.Native.Nat.{_+_, _*_, _<_, _≤_, min, max};
+ghost use Prim.Native.Nat.{_+_, _-_, _*_, _<_, _≤_, min, max};
+ghost use Rattle.base.specs.Lists.{count};
 ghost use Rattle.record_decoded.specs.Kinds.{meant};
-ghost use Rattle.relation_marks.specs.Marks.{programMarks, sharesByte, hasMark};
+ghost use Rattle.relation_marks.specs.Marks.{programMarks, sharedBy, hasMark};
 use record_decoded::kind::Kind;
 use record_decoded::kind::table_column;
 use record_decoded::kind::table_row;
@@ -78,17 +79,25 @@ fn smaller(a: usize, b: usize) -> usize
     if a < b { a } else { b }
 }
 
-// Whether two accesses, each by its address and size, share a byte.
-pub fn shares_byte(address: u8, size: u8, other: u8, extent: u8) -> bool
-    ensures { λ r. ⌜ r ≡ sharesByte address size other extent ⌝ }
+// The bytes that two accesses share, by their addresses: those from `from` to before `end`, so none where `end` is not above `from`.
+pub struct SharedBytes {
+    pub from: usize,
+    pub end: usize,
+}
+
+// The bytes that two accesses share, each by its address and size.
+pub fn shared_bytes(address: u8, size: u8, other: u8, extent: u8) -> SharedBytes
+    ensures { λ r. ⌜ sharedBy address size other extent ≡ count (r .from) (r .end - r .from) ⌝ }
 {
     let a = wide(address);
     let s = wide(size);
     let o = wide(other);
     let e = wide(extent);
-    let end = a + s;
+    let own_end = a + s;
     let other_end = o + e;
-    larger(a, o) < smaller(end, other_end)
+    let from = larger(a, o);
+    let end = smaller(own_end, other_end);
+    SharedBytes { from, end }
 }
 
 pub fn both(a: bool, b: bool) -> bool

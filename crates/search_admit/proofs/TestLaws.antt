@@ -1,8 +1,8 @@
 -- What the parts of the test come to: bits of words, and the members of a set that do not stand.
-use Prim.Native.Nat.{ℕ, _+_, _%_, _^_, _≤_, _<_}
+use Prim.Native.Nat.{ℕ, _+_, _*_, _^_, _≤_, _<_}
 use native.Mathlib.Omega.{arith}
-use mathlib.Core.Path.{_≡_, refl, sym, ap, ap₂, _∙_}
-use mathlib.Core.Bool.{Bool, true, false, not, cond, _&&_, _||_, and-assoc}
+use mathlib.Core.Path.{_≡_, refl, sym, ap, ap₂, _∙_, subst}
+use mathlib.Core.Bool.{Bool, true, false, not, cond, _&&_, _||_, and-assoc, or-false}
 use mathlib.Core.List.{List}
 use lib.ListN.{getD, set}
 use lib.Bits.{bitAnd, bitOr, bitXor, and-lt, or-lt, xor-lt}
@@ -11,14 +11,14 @@ use borrow.Author.Tests.{eq-eqb, ne-eqb, eqb-true, le-ltb, lt-ltb, not-true, not
 use Rattle.base.specs.Below.{allBelow, anyBelow}
 use Rattle.base.specs.Bits.{bit}
 use Rattle.base.proofs.Bools.{agree}
-use Rattle.base.proofs.Tests.{all-at, all-below, all-same, any-below-same}
+use Rattle.base.proofs.Tests.{all-fails, all-at, all-below, all-same, any-below-same}
 use Rattle.relation_places.specs.Places.{beforeBy}
 use Rattle.search_sets.specs.Set.{holds}
 use Rattle.search_sets.proofs.Bit.{has-and, has-or}
 use Rattle.search_sets.proofs.Laws.{has-minus, has-xor, zero-has, bits-zero}
 use Rattle.search_sets.proofs.Members.{any-skips, holds-none}
-use Rattle.search_admit.specs.Rows.{field, awaited, bypasses, writtenBits, readBits, readData, visibleWord, ownWord, ownOf, localOf, readOf, merged, wordsWith}
-use Rattle.search_admit.specs.Fits.{bothOrNeither, waitsFor, refused, pending, localBit, readsRecorded}
+use Rattle.search_admit.specs.Rows.{field, awaited, bypasses, writtenBits, writtenData, writtenWord, wordsWritten, readBits, readData, visibleWord, ownWord, wordsRead, ownOf, localOf, readOf, writesBit, merged, wordOver, wordsUpTo, wordsWith, replacedUpTo, wordsBack}
+use Rattle.search_admit.specs.Fits.{bothOrNeither, bitAgrees, waitsFor, refused, pending, localBit, wordRecorded, readsRecorded}
 
 -- the ways out of the test of one operation that may be waited for
 module _ (rows places : List ℕ) (x m : ℕ) {own-m own-x : ℕ} (is-m : own-m ≡ ownOf rows m) (is-x : own-x ≡ ownOf rows x) {r : Bool}
@@ -105,23 +105,25 @@ abbrev pub standsLocal : List ℕ → ℕ → ℕ → ℕ → Bool
 standsLocal rows lo hi m = ltb (localOf rows m) 128 && holds lo hi (localOf rows m)
 
 -- a bit is local where a store that does not stand wrote it and its LV stands
-pub local-is : (rows : List ℕ) (lo hi x i : ℕ)
-    → anyBelow 128 (λ m. bypasses rows x m && not (holds lo hi m) && (standsLocal rows lo hi m && bit (writtenBits rows m) i)) ≡ localBit rows lo hi x i
-unfolding localBit pending
-local-is rows lo hi x i =
-    any-below-same _ _ 128 (λ m l. sym (and-assoc (bypasses rows x m && not (holds lo hi m)) (standsLocal rows lo hi m) (bit (writtenBits rows m) i)))
+module _ (rows : List ℕ) (lo hi h x : ℕ) {word : ℕ} (is : word ≡ visibleWord rows h x) where
+  pub local-is : (i : ℕ)
+      → anyBelow 128 (λ m. bypasses rows x m && not (holds lo hi m) && (standsLocal rows lo hi m && writesBit rows word m i)) ≡ localBit rows lo hi h x i
+  unfolding localBit pending
+  local-is i =
+      any-below-same _ _ 128 (λ m l. sym (and-assoc (bypasses rows x m && not (holds lo hi m)) (standsLocal rows lo hi m) (writesBit rows word m i))
+      ∙ ap (λ (v : ℕ). bypasses rows x m && not (holds lo hi m) && standsLocal rows lo hi m && writesBit rows v m i) is)
 
-pub local-by : (rows : List ℕ) (lo hi x mlo mhi i : ℕ) → ((k : ℕ) → holds mlo mhi k ≡ (bypasses rows x k && not (holds lo hi k)))
-    → anyBelow 128 (λ m. holds mlo mhi m && (standsLocal rows lo hi m && bit (writtenBits rows m) i)) ≡ localBit rows lo hi x i
-local-by rows lo hi x mlo mhi i e =
-    any-below-same _ _ 128 (λ m l. ap (λ (b : Bool). b && (standsLocal rows lo hi m && bit (writtenBits rows m) i)) (e m)) ∙ local-is rows lo hi x i
+  pub local-by : (mlo mhi i : ℕ) → ((k : ℕ) → holds mlo mhi k ≡ (bypasses rows x k && not (holds lo hi k)))
+      → anyBelow 128 (λ m. holds mlo mhi m && (standsLocal rows lo hi m && writesBit rows word m i)) ≡ localBit rows lo hi h x i
+  local-by mlo mhi i e =
+      any-below-same _ _ 128 (λ m l. ap (λ (b : Bool). b && (standsLocal rows lo hi m && writesBit rows word m i)) (e m)) ∙ local-is i
 
 -- before any operation stands no bit is local
-pub local-none : (rows : List ℕ) (x i : ℕ) → bit 0 i ≡ localBit rows 0 0 x i
+pub local-none : (rows : List ℕ) (h x i : ℕ) → bit 0 i ≡ localBit rows 0 0 h x i
 unfolding localBit pending anyBelow
-local-none rows x i =
+local-none rows h x i =
     zero-has i ∙ sym (any-skips _ 0 128 (omega arith) (λ m a l.
-    go (bypasses rows x m && not (holds 0 0 m)) (ltb (localOf rows m) 128) (holds 0 0 (localOf rows m)) (bit (writtenBits rows m) i) (holds-none (localOf rows m))))
+    go (bypasses rows x m && not (holds 0 0 m)) (ltb (localOf rows m) 128) (holds 0 0 (localOf rows m)) (writesBit rows (visibleWord rows h x) m i) (holds-none (localOf rows m))))
   where
     go : (a b d w : Bool) → d ≡ false → (a && (b && d) && w) ≡ false
     go true true d w e = ap (λ (u : Bool). u && w) e
@@ -183,36 +185,147 @@ module _ (own visible local recorded bits : ℕ) where
       (xor-lt 64 seen recorded (or-lt 64 (bitAnd own local) (bitXor visible (bitAnd visible local)) (and-lt 64 own local o l) (xor-lt 64 visible (bitAnd visible local) v (and-lt 64 visible local v l))) r) b)
       ∙ all-same _ _ 64 (λ i l. differs-bit i)
 
--- what the R x sees, from its row
-pub reads-is : (rows words : List ℕ) (lo hi x : ℕ) (local : ℕ) {own visible recorded bits : ℕ} {r : Bool} → r ≡ allBelow 64 (agreeing own visible local recorded bits)
-    → own ≡ getD words (ownWord rows x) 0 → visible ≡ getD words (visibleWord rows x) 0 → ((i : ℕ) → bit local i ≡ localBit rows lo hi x i)
-    → recorded ≡ readData rows x → bits ≡ readBits rows x → r ≡ readsRecorded rows lo hi words x
-unfolding readsRecorded
-reads-is rows words lo hi x local {own} {visible} {recorded} {bits} e o v l d b =
-    e ∙ all-same _ _ 64 (λ i k. ap (λ (u : Bool). not (bit bits i) || bothOrNeither (cond u (bit own i) (bit visible i)) (bit recorded i)) (l i)
-    ∙ by i (localBit rows lo hi x i))
+-- what the R x sees of its word h, from its row
+pub agrees-by : (rows words : List ℕ) (x h : ℕ) (local : ℕ) {own visible recorded bits : ℕ} {r : Bool} → r ≡ allBelow 64 (agreeing own visible local recorded bits)
+    → own ≡ getD words (ownWord rows h x) 0 → visible ≡ getD words (visibleWord rows h x) 0
+    → recorded ≡ readData rows h x → bits ≡ readBits rows h x → r ≡ allBelow 64 (bitAgrees rows words local h x)
+agrees-by rows words x h local {own} {visible} {recorded} {bits} e o v d b = e ∙ all-same _ _ 64 (λ i k. by i (bit local i))
   where
     by : (i : ℕ) (u : Bool) → (not (bit bits i) || bothOrNeither (cond u (bit own i) (bit visible i)) (bit recorded i))
-        ≡ (not (bit (readBits rows x) i) || bothOrNeither (cond u (bit (getD words (ownWord rows x) 0) i) (bit (getD words (visibleWord rows x) 0) i)) (bit (readData rows x) i))
+        ≡ (not (bit (readBits rows h x) i) || bothOrNeither (cond u (bit (getD words (ownWord rows h x) 0) i) (bit (getD words (visibleWord rows h x) 0) i)) (bit (readData rows h x) i))
     by i u = rw (o, v, d, b) refl
 
--- nothing is read
-pub reads-nothing : (rows words : List ℕ) (lo hi x : ℕ) → readBits rows x ≡ 0 → true ≡ readsRecorded rows lo hi words x
+pub word-is : (rows words : List ℕ) (lo hi x h : ℕ) (local : ℕ) {r : Bool} → r ≡ allBelow 64 (bitAgrees rows words local h x)
+    → ((i : ℕ) → bit local i ≡ localBit rows lo hi h x i) → r ≡ wordRecorded rows lo hi words x h
+unfolding wordRecorded
+word-is rows words lo hi x h local e l =
+    e ∙ all-same _ _ 64 (λ i k. ap (λ (u : Bool). not (bit (readBits rows h x) i)
+    || bothOrNeither (cond u (bit (getD words (ownWord rows h x) 0) i) (bit (getD words (visibleWord rows h x) 0) i)) (bit (readData rows h x) i)) (l i))
+
+-- all words that are read, by their number
+pub reads-all : (rows words : List ℕ) (lo hi x : ℕ) {n : ℕ} {r : Bool} → n ≡ wordsRead rows x → r ≡ allBelow n (wordRecorded rows lo hi words x) → r ≡ readsRecorded rows lo hi words x
 unfolding readsRecorded
-reads-nothing rows words lo hi x z =
-    sym (all-below _ 64 (λ i l. ap (λ (b : ℕ). not (bit b i) || bothOrNeither (cond (localBit rows lo hi x i) (bit (getD words (ownWord rows x) 0) i) (bit (getD words (visibleWord rows x) 0) i)) (bit (readData rows x) i)) z
-    ∙ ap (λ (b : Bool). not b || bothOrNeither (cond (localBit rows lo hi x i) (bit (getD words (ownWord rows x) 0) i) (bit (getD words (visibleWord rows x) 0) i)) (bit (readData rows x) i)) (zero-has i)))
+reads-all rows words lo hi x is e = e ∙ ap (λ (m : ℕ). allBelow m (wordRecorded rows lo hi words x)) is
+
+-- how many words are read, by the bits
+module _ (rows : List ℕ) (x : ℕ) {bits : ℕ} (is : bits ≡ readBits rows 0 x) where
+  pub reads-none : bits ≡ 0 → 0 ≡ wordsRead rows x
+  reads-none z = ap (λ (b : Bool). cond b 0 (cond (eqb (readBits rows 1 x) 0) 1 2)) (sym (eq-eqb (readBits rows 0 x) 0 (sym is ∙ z)))
+
+  pub reads-some : (bits ≡ 0 → ⊥) → 0 < wordsRead rows x
+  reads-some some = subst (λ (b : Bool). 0 < cond b 0 (cond (eqb (readBits rows 1 x) 0) 1 2)) (sym (ne-eqb (readBits rows 0 x) 0 (λ z. some (is ∙ z)))) (go (eqb (readBits rows 1 x) 0))
+    where
+      go : (d : Bool) → 0 < cond d 1 2
+      go true = omega arith
+      go false = omega arith
+
+  module _ (some : bits ≡ 0 → ⊥) {next : ℕ} (next-is : next ≡ readBits rows 1 x) where
+    some-first : eqb (readBits rows 0 x) 0 ≡ false
+    some-first = ne-eqb (readBits rows 0 x) 0 (λ z. some (is ∙ z))
+
+    pub reads-one : next ≡ 0 → 1 ≡ wordsRead rows x
+    reads-one z = ap₂ (λ (b d : Bool). cond b 0 (cond d 1 2)) (sym some-first) (sym (eq-eqb (readBits rows 1 x) 0 (sym next-is ∙ z)))
+
+    pub reads-two : (next ≡ 0 → ⊥) → 2 ≡ wordsRead rows x
+    reads-two z = ap₂ (λ (b d : Bool). cond b 0 (cond d 1 2)) (sym some-first) (sym (ne-eqb (readBits rows 1 x) 0 (λ e. z (next-is ∙ e))))
+
+-- whether the words that are read are as recorded, one after the other
+module _ (rows words : List ℕ) (lo hi x : ℕ) where
+  pub reads-nothing : wordsRead rows x ≡ 0 → true ≡ readsRecorded rows lo hi words x
+  unfolding allBelow
+  reads-nothing n = reads-all rows words lo hi x (sym n) refl
+
+  module _ {first : Bool} (first-is : first ≡ wordRecorded rows lo hi words x 0) where
+    pub reads-wrong : 0 < wordsRead rows x → not first ≡ true → false ≡ readsRecorded rows lo hi words x
+    unfolding readsRecorded
+    reads-wrong some e = sym (all-fails (wordRecorded rows lo hi words x) (wordsRead rows x) 0 some (sym first-is ∙ not-true first e))
+
+    pub reads-first : wordsRead rows x ≡ 1 → not first ≡ false → true ≡ readsRecorded rows lo hi words x
+    unfolding allBelow
+    reads-first n e = reads-all rows words lo hi x (sym n) (sym (not-false first e) ∙ first-is)
+
+    pub reads-only : wordsRead rows x ≡ 1 → first ≡ readsRecorded rows lo hi words x
+    unfolding allBelow
+    reads-only n = reads-all rows words lo hi x (sym n) first-is
+
+    pub reads-next : wordsRead rows x ≡ 2 → not first ≡ false → {r : Bool} → r ≡ wordRecorded rows lo hi words x 1 → r ≡ readsRecorded rows lo hi words x
+    unfolding allBelow
+    reads-next n e is = reads-all rows words lo hi x (sym n) (is ∙ ap (λ (b : Bool). b && wordRecorded rows lo hi words x 1) (sym (not-false first e) ∙ first-is))
+
+-- how many words are written, by the bits of the next one
+module _ (rows : List ℕ) (x : ℕ) {next : ℕ} (is : next ≡ writtenBits rows 1 x) where
+  pub writes-one : (next ≡ 0) → wordsWritten rows x ≡ 1
+  writes-one z = ap (λ (b : Bool). cond b 1 2) (eq-eqb (writtenBits rows 1 x) 0 (sym is ∙ z))
+
+  pub writes-two : (next ≡ 0 → ⊥) → wordsWritten rows x ≡ 2
+  writes-two z = ap (λ (b : Bool). cond b 1 2) (ne-eqb (writtenBits rows 1 x) 0 (λ e. z (is ∙ e)))
 
 -- a word written over
-pub written : (rows words : List ℕ) (x : ℕ) {at bits data' : ℕ} → at ≡ field rows 10 x → bits ≡ writtenBits rows x → data' ≡ field rows 9 x
-    → set words (at % 128) (merged (getD words (at % 128) 0) bits data') ≡ wordsWith rows words x
-written rows words x a b d = cc (a, b, d)
+pub written : (rows words : List ℕ) (x h : ℕ) {at bits data' : ℕ} → at ≡ writtenWord rows h x → bits ≡ writtenBits rows h x → data' ≡ writtenData rows h x
+    → set words at (merged (getD words at 0) bits data') ≡ wordOver rows words x h
+written rows words x h a b d = cc (a, b, d)
 
--- the ways out of the bits of one store
-module _ (rows : List ℕ) (lo hi m i : ℕ) {local : ℕ} (is : local ≡ localOf rows m) where
-  abbrev wrote : Bool
-  wrote = bit (writtenBits rows m) i
+-- the words that are written, one after the other, what they were, and how they are put back
+module _ (rows words replaced : List ℕ) (k x : ℕ) where
+  kept-first : (v : ℕ) → v ≡ getD words (writtenWord rows 0 x) 0 → set replaced (2 * k) v ≡ replacedUpTo rows words replaced k x 1
+  unfolding replacedUpTo wordsUpTo
+  kept-first v e = ap₂ (set replaced) (let z : 2 * k ≡ 2 * k + 0 = omega arith in z) e
 
+  pub write-one : wordsWritten rows x ≡ 1 → {words' : List ℕ} → words' ≡ wordOver rows words x 0 → (v : ℕ) → v ≡ getD words (writtenWord rows 0 x) 0
+      → (words' ≡ wordsWith rows words x) × (set replaced (2 * k) v ≡ replacedUpTo rows words replaced k x (wordsWritten rows x))
+  unfolding wordsUpTo
+  write-one n e v f = (e ∙ ap (wordsUpTo rows words x) (sym n), kept-first v f ∙ ap (replacedUpTo rows words replaced k x) (sym n))
+
+  pub write-two : wordsWritten rows x ≡ 2 → (words' : List ℕ) {words'' : List ℕ} → words' ≡ wordOver rows words x 0 → words'' ≡ wordOver rows words' x 1
+      → (v w : ℕ) → v ≡ getD words (writtenWord rows 0 x) 0 → w ≡ getD words' (writtenWord rows 1 x) 0
+      → (words'' ≡ wordsWith rows words x) × (set (set replaced (2 * k) v) (2 * k + 1) w ≡ replacedUpTo rows words replaced k x (wordsWritten rows x))
+  unfolding wordsUpTo replacedUpTo
+  write-two n words' e f v w g h = (
+    f ∙ ap (λ (l : List ℕ). wordOver rows l x 1) e ∙ ap (wordsUpTo rows words x) (sym n),
+    ap₂ (λ (l : List ℕ) (u : ℕ). set l (2 * k + 1) u) (kept-first v g) (h ∙ ap (λ (l : List ℕ). getD l (writtenWord rows 1 x) 0) e)
+        ∙ ap (replacedUpTo rows words replaced k x) (sym n),
+  )
+
+  back-first : (l : List ℕ) → set l (writtenWord rows 0 x) (getD replaced (2 * k + 0) 0) ≡ wordsBack rows l replaced k x 1
+  unfolding wordsBack
+  back-first l = refl
+
+  pub back-one : wordsWritten rows x ≡ 1 → {words' : List ℕ} → words' ≡ set words (writtenWord rows 0 x) (getD replaced (2 * k + 0) 0)
+      → words' ≡ wordsBack rows words replaced k x (wordsWritten rows x)
+  back-one n e = e ∙ back-first words ∙ ap (wordsBack rows words replaced k x) (sym n)
+
+  pub back-two : wordsWritten rows x ≡ 2 → (words' : List ℕ) {words'' : List ℕ} → words' ≡ set words (writtenWord rows 1 x) (getD replaced (2 * k + 1) 0)
+      → words'' ≡ set words' (writtenWord rows 0 x) (getD replaced (2 * k + 0) 0) → words'' ≡ wordsBack rows words replaced k x (wordsWritten rows x)
+  unfolding wordsBack
+  back-two n words' e f =
+      f ∙ ap (λ (l : List ℕ). set l (writtenWord rows 0 x) (getD replaced (2 * k + 0) 0)) e ∙ ap (wordsBack rows words replaced k x) (sym n)
+
+-- the bits of a word, by which of its words it is
+module _ (rows : List ℕ) (v m i : ℕ) {first : ℕ} (is : first ≡ writtenWord rows 0 m) where
+  pub bits-first : {w : ℕ} → first ≡ v → w ≡ writtenBits rows 0 m → bit w i ≡ writesBit rows v m i
+  unfolding writesBit
+  bits-first {w} e q =
+      ap (λ (u : ℕ). bit u i) q
+      ∙ sym (ap₂ (λ (a b : Bool). a && bit (writtenBits rows 0 m) i || b && bit (writtenBits rows 1 m) i) (eq-eqb (writtenWord rows 0 m) v (sym is ∙ e))
+      (ne-eqb (writtenWord rows 1 m) v (λ z. omega (arith, is, e, z))) ∙ or-false (bit (writtenBits rows 0 m) i))
+
+  module _ (other : first ≡ v → ⊥) {second : ℕ} (second-is : second ≡ writtenWord rows 1 m) where
+    pub bits-second : {w : ℕ} → second ≡ v → w ≡ writtenBits rows 1 m → bit w i ≡ writesBit rows v m i
+    unfolding writesBit
+    bits-second {w} e q =
+        ap (λ (u : ℕ). bit u i) q
+        ∙ sym (ap₂ (λ (a b : Bool). a && bit (writtenBits rows 0 m) i || b && bit (writtenBits rows 1 m) i) (ne-eqb (writtenWord rows 0 m) v (λ z. other (is ∙ z)))
+        (eq-eqb (writtenWord rows 1 m) v (sym second-is ∙ e)))
+
+    pub bits-neither : (second ≡ v → ⊥) → bit 0 i ≡ writesBit rows v m i
+    unfolding writesBit
+    bits-neither e =
+        zero-has i
+        ∙ sym (ap₂ (λ (a b : Bool). a && bit (writtenBits rows 0 m) i || b && bit (writtenBits rows 1 m) i) (ne-eqb (writtenWord rows 0 m) v (λ z. other (is ∙ z)))
+        (ne-eqb (writtenWord rows 1 m) v (λ z. e (second-is ∙ z))))
+
+-- the ways out of the bits of one store; `wrote` is whether it wrote the bit
+module _ (rows : List ℕ) (lo hi m i : ℕ) (wrote : Bool) {local : ℕ} (is : local ≡ localOf rows m) where
   pub bits-none : 128 ≤ local → bit 0 i ≡ (standsLocal rows lo hi m && wrote)
   bits-none h = zero-has i ∙ ap (λ (b : Bool). b && holds lo hi (localOf rows m) && wrote) (sym (le-ltb (localOf rows m) 128 (omega (arith, is))))
 
@@ -223,9 +336,9 @@ module _ (rows : List ℕ) (lo hi m i : ℕ) {local : ℕ} (is : local ≡ local
       go true b q = ap (λ (u : Bool). u && wrote) (sym q)
       go false b q = refl
 
-  pub bits-there : {r : Bool} {w : ℕ} → local < 128 → r ≡ holds lo hi local → not r ≡ false → w ≡ writtenBits rows m → bit w i ≡ (standsLocal rows lo hi m && wrote)
-  bits-there {r} {w} l e h q =
-      rw (lt-ltb (localOf rows m) 128 (omega (arith, is)), ap (holds lo hi) (sym is) ∙ sym e ∙ not-false r h) (ap (λ (v : ℕ). bit v i) q)
+  pub bits-there : {r s : Bool} → local < 128 → r ≡ holds lo hi local → not r ≡ false → s ≡ wrote → s ≡ (standsLocal rows lo hi m && wrote)
+  bits-there {r} {s} l e h q =
+      rw (lt-ltb (localOf rows m) 128 (omega (arith, is)), ap (holds lo hi) (sym is) ∙ sym e ∙ not-false r h) q
 
 -- what must stand before an operation does, by the words of its set
 pub ready-by : (rows : List ℕ) (lo hi x : ℕ) {alo ahi : ℕ} {r : Bool} → alo ≡ field rows 0 x → ahi ≡ field rows 1 x

@@ -10,7 +10,7 @@ use Rattle.base.specs.Below.{allBelow, anyBelow}
 use Rattle.base.specs.Bits.{bit}
 use Rattle.relation_places.specs.Places.{beforeBy, Placed}
 use Rattle.search_sets.specs.Set.{holds}
-use Rattle.search_admit.specs.Rows.{precedes, partnerBy, awaited, bypasses, writtenBits, readBits, readData, visibleWord, ownWord, ownOf, localOf, readOf, wordsAfter}
+use Rattle.search_admit.specs.Rows.{precedes, partnerBy, awaited, bypasses, readBits, readData, visibleWord, ownWord, wordsRead, ownOf, localOf, readOf, writesBit, wordsAfter}
 
 -- the last entry; 255 where there is none
 unfoldable pub lastEntry : List ℕ → ℕ
@@ -43,24 +43,34 @@ module _ (rows places : List ℕ) where
   unfoldable pub refused : ℕ → ℕ → ℕ → Bool
   refused lo hi x = anyBelow 128 (λ m. awaited rows x m && not (holds lo hi m) && waitsFor x m)
 
+-- where x reads bit i of its word h, it is as recorded: read from what the own processor wrote where `local` is set
+abbrev pub bitAgrees : List ℕ → List ℕ → ℕ → ℕ → ℕ → ℕ → Bool
+bitAgrees rows words local h x i =
+    not (bit (readBits rows h x) i)
+    || bothOrNeither (cond (bit local i) (bit (getD words (ownWord rows h x) 0) i) (bit (getD words (visibleWord rows h x) 0) i)) (bit (readData rows h x) i)
+
 module _ (rows : List ℕ) (lo hi : ℕ) where
   -- the LV of m's store stands and its own RV does not: an R of its processor reads its bytes
   unfoldable pub pending : ℕ → ℕ → Bool
   pending x m = bypasses rows x m && not (holds lo hi m) && (ltb (localOf rows m) 128 && holds lo hi (localOf rows m))
 
-  -- a bit is read from what the own processor wrote
-  unfoldable pub localBit : ℕ → ℕ → Bool
-  localBit x i = anyBelow 128 (λ m. pending x m && bit (writtenBits rows m) i)
+  -- bit i of x's word h is read from what the own processor wrote
+  unfoldable pub localBit : ℕ → ℕ → ℕ → Bool
+  localBit h x i = anyBelow 128 (λ m. pending x m && writesBit rows (visibleWord rows h x) m i)
 
-  -- rule 11: where x reads a bit, it is as recorded
-  abbrev pub bitRecorded : List ℕ → ℕ → ℕ → Bool
-  bitRecorded words x i =
-      not (bit (readBits rows x) i)
-      || bothOrNeither (cond (localBit x i) (bit (getD words (ownWord rows x) 0) i) (bit (getD words (visibleWord rows x) 0) i)) (bit (readData rows x) i)
+  -- rule 11: where x reads bit i of its word h, it is as recorded
+  abbrev pub bitRecorded : List ℕ → ℕ → ℕ → ℕ → Bool
+  bitRecorded words h x i =
+      not (bit (readBits rows h x) i)
+      || bothOrNeither (cond (localBit h x i) (bit (getD words (ownWord rows h x) 0) i) (bit (getD words (visibleWord rows h x) 0) i)) (bit (readData rows h x) i)
 
-  -- so are all its bits
+  -- so are all bits of the word
+  unfoldable pub wordRecorded : List ℕ → ℕ → ℕ → Bool
+  wordRecorded words x h = allBelow 64 (bitRecorded words h x)
+
+  -- and all its words
   unfoldable pub readsRecorded : List ℕ → ℕ → Bool
-  readsRecorded words x = allBelow 64 (bitRecorded words x)
+  readsRecorded words x = allBelow (wordsRead rows x) (wordRecorded words x)
 
 -- what must stand before x stands
 abbrev pub ready : List ℕ → ℕ → ℕ → ℕ → Bool

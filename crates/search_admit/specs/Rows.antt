@@ -1,5 +1,5 @@
--- What is compiled of an execution: a row of eighteen words for each operation. The words of memory, and what a row has of them, are relative to the initial bytes.
-use Prim.Native.Nat.{ℕ, _+_, _*_, _-_, _/_, _%_, _<_}
+-- What is compiled of an execution: a row of 21 words for each operation. The words of memory, and what a row has of them, are relative to the initial bytes.
+use Prim.Native.Nat.{ℕ, zero, suc, _+_, _*_, _-_, _/_, _%_, _<_}
 use mathlib.Core.Path.{_≡_}
 use mathlib.Core.Bool.{Bool, true, cond, _&&_, _||_}
 use mathlib.Core.List.{List, [], _∷_}
@@ -11,7 +11,7 @@ use Rattle.base.specs.Below.{anyBelow}
 use Rattle.base.specs.Bits.{bit}
 use Rattle.model.specs.Execution.{Kind, isStore, isSemaphore, isRelease, kindOf, R, LV, RV, stores, operations, numberFrom, numberOf}
 use Rattle.model.specs.Questions.{writtenFrom}
-use Rattle.model.specs.Rules.{linked, inWB, RV-own, remoteOf, accesses}
+use Rattle.model.specs.Rules.{linked, inWB, RV-own, remoteOf, accesses, overlap}
 use Rattle.record_decoded.specs.declared.types.Execution.{Execution}
 use Rattle.record_decoded.specs.Decoded.{initialOf, instructionAt, executionOf}
 use Rattle.relation_marks.specs.Marks.{hasMark, conflictMark, bypassMark, markAt}
@@ -22,7 +22,7 @@ use Rattle.search_sets.specs.Set.{holds}
 
 -- the words of a row, and of all 128 rows
 abbrev pub rowLength : ℕ
-rowLength = 18
+rowLength = 21
 
 abbrev pub tableLength : ℕ
 tableLength = 128 * rowLength
@@ -54,48 +54,88 @@ module _ (rows : List ℕ) where
   abbrev pub bypasses : ℕ → ℕ → Bool
   bypasses x a = setBy rows 6 x a
 
-  -- the bits that x writes to a word of memory, and what it writes
-  abbrev pub writtenBits : ℕ → ℕ
-  writtenBits x = field rows 8 x
+  -- An access goes to its line's word of memory and, where it lies on two lines, to the next: these are its words 0 and 1.
 
-  abbrev pub writtenData : ℕ → ℕ
-  writtenData x = field rows 9 x
+  -- the bits that x writes to its word h, what it writes, and which word that is
+  abbrev pub writtenBits : ℕ → ℕ → ℕ
+  writtenBits h x = field rows (8 + h) x
 
-  abbrev pub writtenWord : ℕ → ℕ
-  writtenWord x = field rows 10 x % 128
+  abbrev pub writtenData : ℕ → ℕ → ℕ
+  writtenData h x = field rows (10 + h) x
 
-  -- the bits that the R x reads, what it saw, and the words where others' and where its own processor's stores are
-  abbrev pub readBits : ℕ → ℕ
-  readBits x = field rows 11 x
+  abbrev pub writtenWord : ℕ → ℕ → ℕ
+  writtenWord h x = (field rows 12 x + h) % 128
 
-  abbrev pub readData : ℕ → ℕ
-  readData x = field rows 12 x
+  -- how many words it writes: the next one only where it has bits there
+  abbrev pub wordsWritten : ℕ → ℕ
+  wordsWritten x = cond (eqb (writtenBits 1 x) 0) 1 2
 
-  abbrev pub visibleWord : ℕ → ℕ
-  visibleWord x = field rows 13 x % 128
+  -- the bits that the R x reads of its word h, what it saw, and the words where others' and, 64 behind, where its own processor's stores are
+  abbrev pub readBits : ℕ → ℕ → ℕ
+  readBits h x = field rows (13 + h) x
 
-  abbrev pub ownWord : ℕ → ℕ
-  ownWord x = field rows 14 x % 128
+  abbrev pub readData : ℕ → ℕ → ℕ
+  readData h x = field rows (15 + h) x
+
+  abbrev pub visibleWord : ℕ → ℕ → ℕ
+  visibleWord h x = (field rows 17 x + h) % 128
+
+  abbrev pub ownWord : ℕ → ℕ → ℕ
+  ownWord h x = (visibleWord h x + 64) % 128
+
+  -- how many words it reads: none, where it has no bits in the first
+  abbrev pub wordsRead : ℕ → ℕ
+  wordsRead x = cond (eqb (readBits 0 x) 0) 0 (cond (eqb (readBits 1 x) 0) 1 2)
 
   -- the own RV and the LV of x's store; of another operation itself
   abbrev pub ownOf : ℕ → ℕ
-  ownOf x = field rows 15 x
+  ownOf x = field rows 18 x
 
   abbrev pub localOf : ℕ → ℕ
-  localOf x = field rows 16 x
+  localOf x = field rows 19 x
 
   -- the R of the semaphore that x is an LV or an RV of; of another operation itself
   abbrev pub readOf : ℕ → ℕ
-  readOf x = field rows 17 x
+  readOf x = field rows 20 x
+
+  -- x writes bit i of word v of memory
+  unfoldable pub writesBit : ℕ → ℕ → ℕ → Bool
+  writesBit v x i = eqb (writtenWord 0 x) v && bit (writtenBits 0 x) i || eqb (writtenWord 1 x) v && bit (writtenBits 1 x) i
 
 -- a word with some bits written anew
 abbrev pub merged : ℕ → ℕ → ℕ → ℕ
 merged word bits data' = bitOr (bitXor word (bitAnd word bits)) data'
 
--- the words after operation x
+-- the words of memory, with the one that is operation x's word h
+abbrev pub wordOver : List ℕ → List ℕ → ℕ → ℕ → List ℕ
+wordOver rows words x h =
+    set words (writtenWord rows h x) (merged (getD words (writtenWord rows h x) 0) (writtenBits rows h x) (writtenData rows h x))
+
+-- with the first n that it writes
+unfoldable pub wordsUpTo : List ℕ → List ℕ → ℕ → ℕ → List ℕ
+wordsUpTo rows words x zero = words
+wordsUpTo rows words x (suc h) = wordOver rows (wordsUpTo rows words x h) x h
+
+-- what these n were before, kept from entry 2 k on
+unfoldable pub replacedUpTo : List ℕ → List ℕ → List ℕ → ℕ → ℕ → ℕ → List ℕ
+replacedUpTo rows words replaced k x zero = replaced
+replacedUpTo rows words replaced k x (suc h) =
+    set (replacedUpTo rows words replaced k x h) (2 * k + h) (getD (wordsUpTo rows words x h) (writtenWord rows h x) 0)
+
+-- the words with these n put back, the last first
+unfoldable pub wordsBack : List ℕ → List ℕ → List ℕ → ℕ → ℕ → ℕ → List ℕ
+wordsBack rows words replaced k x zero = words
+wordsBack rows words replaced k x (suc h) = wordsBack rows (set words (writtenWord rows h x) (getD replaced (2 * k + h) 0)) replaced k x h
+
+-- the words after operation x, what it wrote over kept as that of entry k, and the words with that put back
 abbrev pub wordsWith : List ℕ → List ℕ → ℕ → List ℕ
-wordsWith rows words x =
-    set words (writtenWord rows x) (merged (getD words (writtenWord rows x) 0) (writtenBits rows x) (writtenData rows x))
+wordsWith rows words x = wordsUpTo rows words x (wordsWritten rows x)
+
+abbrev pub replacedWith : List ℕ → List ℕ → List ℕ → ℕ → ℕ → List ℕ
+replacedWith rows words replaced k x = replacedUpTo rows words replaced k x (wordsWritten rows x)
+
+abbrev pub wordsWithout : List ℕ → List ℕ → List ℕ → ℕ → ℕ → List ℕ
+wordsWithout rows words replaced k x = wordsBack rows words replaced k x (wordsWritten rows x)
 
 -- the words after more operations, in order
 unfoldable pub wordsFrom : List ℕ → List ℕ → List ℕ → List ℕ
@@ -117,7 +157,7 @@ unfoldable pub partner : List ℕ → Execution → ℕ → ℕ → Bool
 partner bytes x o a =
     any (λ w. isRelease (w .kind) && inWB (executionOf bytes x) w && (member (remoteOf (executionOf bytes x) w) o && member (remoteOf (executionOf bytes x) w) a)) (stores (executionOf bytes x))
 
--- bit i of the line of instruction w is one of its bytes'
+-- bit i, counted from the start of the line of instruction w, is one of its bytes'
 unfoldable pub covers : Execution → ℕ → ℕ → Bool
 covers x w i = accesses (instructionAt (x .instructions) w) (8 * (getD (x .instructions .addresses) w 0 / 8) + i / 8)
 
@@ -125,7 +165,7 @@ covers x w i = accesses (instructionAt (x .instructions) w) (8 * (getD (x .instr
 abbrev pub relative : ℕ → ℕ → ℕ
 relative byte initial = bitXor byte initial
 
--- bit i of instruction w's data from a place on, in its line, relative to the initial bytes of the record
+-- bit i of instruction w's data from a place on, counted from the start of its line, relative to the initial bytes of the record
 unfoldable pub dataBit : List ℕ → Execution → ℕ → ℕ → ℕ → Bool
 dataBit bytes x w from i =
     covers x w i
@@ -171,15 +211,15 @@ module _ (x : Execution) (t : Operations) (marks : List (List ℕ)) (o : ℕ) wh
   awaitedOf v a =
       awaitedBy (markAt marks v owner) role (kindOf (getD (x .instructions .kinds) v 0)) (getD (x .instructions .firsts) v 0) (getD (x .instructions .processors) v 0) a
 
-  -- instruction v is a store of o's processor to its line
-  abbrev pub storesToLine : ℕ → Bool
-  storesToLine v =
+  -- instruction v is a store of o's processor to some of its bytes
+  abbrev pub storesToIts : ℕ → Bool
+  storesToIts v =
       isStore (kindOf (getD (x .instructions .kinds) v 0))
-      && (eqb (getD (x .instructions .processors) v 0) processor && eqb (getD (x .instructions .addresses) v 0 / 8) line)
+      && (eqb (getD (x .instructions .processors) v 0) processor && overlap (instructionAt (x .instructions) v) (instructionAt (x .instructions) owner))
 
   -- o is an R, and a the own RV of such a store v
   abbrev pub bypassOf : ℕ → ℕ → Bool
-  bypassOf v a = eqb role 0 && (storesToLine v && eqb a (RV-own (instructionAt (x .instructions) v)))
+  bypassOf v a = eqb role 0 && (storesToIts v && eqb a (RV-own (instructionAt (x .instructions) v)))
 
   pub record RowOf (bytes : List ℕ) (row : ℕ → ℕ) : Type 0 where
     pub preds-are : (a : ℕ) → a < 128
@@ -188,16 +228,15 @@ module _ (x : Execution) (t : Operations) (marks : List (List ℕ)) (o : ℕ) wh
     pub partners-are : (a : ℕ) → a < 128 → holds (row 2) (row 3) a ≡ partner bytes x o a
     pub awaited-are : (a : ℕ) → a < 128 → holds (row 4) (row 5) a ≡ anyBelow (x .instructions .count) (λ v. awaitedOf v a)
     pub bypasses-are : (a : ℕ) → a < 128 → holds (row 6) (row 7) a ≡ anyBelow (x .instructions .count) (λ v. bypassOf v a)
-    pub writes-bits : (i : ℕ) → i < 64 → bit (row 8) i ≡ (writes role && covers x owner i)
-    pub writes-data : (i : ℕ) → i < 64 → bit (row 9) i ≡ (writes role && dataBit bytes x owner (writtenFrom kind) i)
-    pub writes-word : writes role ≡ true → row 10 ≡ cond (eqb role 1) (ownAt processor line) (visibleAt (role - 3) line)
-    pub reads-bits : (i : ℕ) → i < 64 → bit (row 11) i ≡ (eqb role 0 && covers x owner i)
-    pub reads-data : (i : ℕ) → i < 64 → bit (row 12) i ≡ (eqb role 0 && dataBit bytes x owner 0 i)
-    pub reads-visible : role ≡ 0 → row 13 ≡ visibleAt processor line
-    pub reads-own : role ≡ 0 → row 14 ≡ ownAt processor line
-    pub own-is : row 15 ≡ cond (writes role) (RV-own (instructionAt (x .instructions) owner)) o
-    pub local-is : row 16 ≡ cond (writes role) (numberOf (instructionAt (x .instructions) owner) LV) o
-    pub read-is : row 17 ≡ cond (writes role && isSemaphore kind) (numberOf (instructionAt (x .instructions) owner) R) o
+    pub writes-bits : (h i : ℕ) → h < 2 → i < 64 → bit (row (8 + h)) i ≡ (writes role && covers x owner (64 * h + i))
+    pub writes-data : (h i : ℕ) → h < 2 → i < 64 → bit (row (10 + h)) i ≡ (writes role && dataBit bytes x owner (writtenFrom kind) (64 * h + i))
+    pub writes-word : writes role ≡ true → row 12 ≡ cond (eqb role 1) (ownAt processor line) (visibleAt (role - 3) line)
+    pub reads-bits : (h i : ℕ) → h < 2 → i < 64 → bit (row (13 + h)) i ≡ (eqb role 0 && covers x owner (64 * h + i))
+    pub reads-data : (h i : ℕ) → h < 2 → i < 64 → bit (row (15 + h)) i ≡ (eqb role 0 && dataBit bytes x owner 0 (64 * h + i))
+    pub reads-visible : role ≡ 0 → row 17 ≡ visibleAt processor line
+    pub own-is : row 18 ≡ cond (writes role) (RV-own (instructionAt (x .instructions) owner)) o
+    pub local-is : row 19 ≡ cond (writes role) (numberOf (instructionAt (x .instructions) owner) LV) o
+    pub read-is : row 20 ≡ cond (writes role && isSemaphore kind) (numberOf (instructionAt (x .instructions) owner) R) o
 
 -- bytes are below 256
 abbrev pub Bytes : List ℕ → Type 0

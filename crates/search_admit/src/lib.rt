@@ -1,14 +1,14 @@
 // The tests of one operation more behind a consistent prefix, on compiled rows.
 ghost use mathlib.Core.Path.{_≡_};
 ghost use mathlib.Core.Bool.{not, cond, _&&_, _||_};
-ghost use Prim.Native.Nat.{ℕ, _+_, _%_, _<_};
+ghost use Prim.Native.Nat.{ℕ, _+_, _*_, _%_, _<_, _≤_};
 ghost use lib.ListN.{length, getD, set};
 ghost use Rattle.base.specs.Below.{allBelow, anyBelow};
 ghost use Rattle.base.specs.Bits.{bit};
 ghost use Rattle.search_sets.specs.Set.{holds};
-ghost use Rattle.search_admit.specs.Rows.{rowLength, field, writtenBits, writtenWord, localOf, wordsWith, firstWords};
+ghost use Rattle.search_admit.specs.Rows.{rowLength, field, writtenWord, visibleWord, wordsRead, localOf, writesBit, wordOver, wordsWith, replacedWith, wordsWithout, firstWords};
 ghost use lib.Dec.{ltb};
-ghost use Rattle.search_admit.specs.Fits.{bothOrNeither, waitsFor, refused, localBit, readsRecorded, enabled};
+ghost use Rattle.search_admit.specs.Fits.{bothOrNeither, waitsFor, refused, localBit, bitAgrees, readsRecorded, enabled};
 use record_decoded::position::Position;
 use record_decoded::types::OperationNo;
 use relation_places::before;
@@ -28,32 +28,40 @@ pub const AWAITED: usize = 4;
 
 pub const BYPASSES: usize = 6;
 
+// An access has two words of memory, of its line and of the next: bits and data are two words each.
 pub const WRITTEN_BITS: usize = 8;
 
-pub const WRITTEN_DATA: usize = 9;
+pub const WRITTEN_DATA: usize = 10;
 
-pub const WRITTEN_WORD: usize = 10;
+pub const WRITTEN_WORD: usize = 12;
 
-pub const READ_BITS: usize = 11;
+pub const READ_BITS: usize = 13;
 
-pub const READ_DATA: usize = 12;
+pub const READ_DATA: usize = 15;
 
-pub const VISIBLE_WORD: usize = 13;
+pub const VISIBLE_WORD: usize = 17;
 
-pub const OWN_WORD: usize = 14;
+pub const OWN: usize = 18;
 
-pub const OWN: usize = 15;
+pub const LOCAL: usize = 19;
 
-pub const LOCAL: usize = 16;
-
-pub const READ: usize = 17;
+pub const READ: usize = 20;
 
 // The words of a row, those of all rows, and the words of memory.
-pub const ROW: usize = 18;
+pub const ROW: usize = 21;
 
 pub const TABLE: usize = ROW * Position::LIMIT;
 
 pub const WORDS: usize = 128;
+
+// The words that the entries of a position wrote over, two for each.
+pub const REPLACED: usize = 2 * Position::LIMIT;
+
+// The words of an access in its line and in the next.
+pub struct TwoWords {
+    pub first: u64,
+    pub next: u64,
+}
 
 // Word f of the row of operation x.
 pub fn field_of(rows: &[u64; TABLE], x: OperationNo, f: usize) -> u64
@@ -64,11 +72,21 @@ pub fn field_of(rows: &[u64; TABLE], x: OperationNo, f: usize) -> u64
     rows[ROW * at + f]
 }
 
-// A word of memory.
-fn word_at(words: &[u64; WORDS], at: u64) -> u64
-    ensures { λ r. ⌜ r ≡ getD (now (words .entry)) (at % 128) 0 ⌝ }
+// The word of memory h places, 0 or 1, after the one in word f of the row of operation x.
+pub fn word_of(rows: &[u64; TABLE], x: OperationNo, f: usize, h: usize) -> usize
+    requires { ⌜ (x .0 < 128) × (f < rowLength) × (h < 2) ⌝ }
+    ensures { λ r. ⌜ (r ≡ (field (now (rows .entry)) f (x .0) + h) % 128) × (r < 128) ⌝ }
 {
-    words[(at % WORDS as u64) as usize]
+    let first = (field_of(rows, x, f) % WORDS as u64) as usize;
+    (first + h) % WORDS
+}
+
+// The word of memory for what a processor's own stores wrote, by that for what is visible to it.
+pub fn own_of(visible: usize) -> usize
+    requires { ⌜ visible < 128 ⌝ }
+    ensures { λ r. ⌜ (r ≡ (visible + 64) % 128) × (r < 128) ⌝ }
+{
+    (visible + WORDS / 2) % WORDS
 }
 
 // The set in words f and f + 1 of the row of operation x.
@@ -150,45 +168,73 @@ pub fn is_refused(
     waits_for_any(rows, places, minus(awaited, stand), x)
 }
 
-// The bits that the store of m wrote, where its LV stands.
-fn bits_of(rows: &[u64; TABLE], stand: Set, m: OperationNo) -> u64
+// The bits that operation m writes to a word of memory.
+fn bits_at(rows: &[u64; TABLE], m: OperationNo, word: usize) -> u64
     requires { ⌜ m .0 < 128 ⌝ }
-    ensures { λ r. ⌜ ((i : ℕ) → bit r i ≡ (ltb (localOf (now (rows .entry)) (m .0)) 128 && holds (stand .lo) (stand .hi) (localOf (now (rows .entry)) (m .0)) && bit (writtenBits (now (rows .entry)) (m .0)) i)) ⌝ }
+    ensures { λ r. ⌜ ((i : ℕ) → bit r i ≡ writesBit (now (rows .entry)) word (m .0) i) ⌝ }
+{
+    if word_of(rows, m, WRITTEN_WORD, 0) == word {
+        return field_of(rows, m, WRITTEN_BITS);
+    }
+    if word_of(rows, m, WRITTEN_WORD, 1) == word {
+        return field_of(rows, m, WRITTEN_BITS + 1);
+    }
+    0
+}
+
+// The bits that the store of m wrote to two words of memory, where its LV stands.
+fn bits_of(rows: &[u64; TABLE], stand: Set, m: OperationNo, word: usize, next: usize) -> TwoWords
+    requires { ⌜ m .0 < 128 ⌝ }
+    ensures { λ r. ⌜ ((i : ℕ) → bit (r .first) i ≡ (ltb (localOf (now (rows .entry)) (m .0)) 128 && holds (stand .lo) (stand .hi) (localOf (now (rows .entry)) (m .0)) && writesBit (now (rows .entry)) word (m .0) i)) × ((i : ℕ) → bit (r .next) i ≡ (ltb (localOf (now (rows .entry)) (m .0)) 128 && holds (stand .lo) (stand .hi) (localOf (now (rows .entry)) (m .0)) && writesBit (now (rows .entry)) next (m .0) i)) ⌝ }
 {
     let local = field_of(rows, m, LOCAL) as usize;
     if local >= Position::LIMIT {
-        return 0;
+        return TwoWords { first: 0, next: 0 };
     }
     if !has(stand, local) {
-        return 0;
+        return TwoWords { first: 0, next: 0 };
     }
-    field_of(rows, m, WRITTEN_BITS)
+    let first = bits_at(rows, m, word);
+    let second = bits_at(rows, m, next);
+    TwoWords {
+        first,
+        next: second,
+    }
 }
 
-// The bits that those of the missing stores wrote whose LVs stand.
-fn pending_bits(rows: &[u64; TABLE], stand: Set, missing: Set) -> u64
-    ensures { λ r. ⌜ ((i : ℕ) → bit r i ≡ anyBelow 128 (λ (m : ℕ). holds (missing .lo) (missing .hi) m && (ltb (localOf (now (rows .entry)) m) 128 && holds (stand .lo) (stand .hi) (localOf (now (rows .entry)) m) && bit (writtenBits (now (rows .entry)) m) i))) ⌝ }
+// The bits that those of the missing stores wrote to two words of memory whose LVs stand.
+fn pending_bits(rows: &[u64; TABLE], stand: Set, missing: Set, word: usize, next: usize) -> TwoWords
+    ensures { λ r. ⌜ ((i : ℕ) → bit (r .first) i ≡ anyBelow 128 (λ (m : ℕ). holds (missing .lo) (missing .hi) m && (ltb (localOf (now (rows .entry)) m) 128 && holds (stand .lo) (stand .hi) (localOf (now (rows .entry)) m) && writesBit (now (rows .entry)) word m i))) × ((i : ℕ) → bit (r .next) i ≡ anyBelow 128 (λ (m : ℕ). holds (missing .lo) (missing .hi) m && (ltb (localOf (now (rows .entry)) m) 128 && holds (stand .lo) (stand .hi) (localOf (now (rows .entry)) m) && writesBit (now (rows .entry)) next m i))) ⌝ }
 {
     let mut bits = 0;
+    let mut beside = 0;
     let mut m = first(missing, 0);
     while m < BOUND {
-        bits |= bits_of(rows, stand, OperationNo(m));
+        let more = bits_of(rows, stand, OperationNo(m), word, next);
+        bits |= more.first;
+        beside |= more.next;
         let from = m + 1;
         m = first(missing, from);
     }
-    bits
+    TwoWords {
+        first: bits,
+        next: beside,
+    }
 }
 
-// The bits that the R x reads from what its own processor wrote. Mostly no store is missing, so that is asked first. (Of a semaphore's R its own store always is.)
-fn local_bits(rows: &[u64; TABLE], stand: Set, x: OperationNo) -> u64
-    requires { ⌜ x .0 < 128 ⌝ }
-    ensures { λ r. ⌜ ((i : ℕ) → bit r i ≡ localBit (now (rows .entry)) (stand .lo) (stand .hi) (x .0) i) ⌝ }
+// The bits that the R x reads from what its own processor wrote, of its two words.
+fn local_bits(
+    rows: &[u64; TABLE],
+    stand: Set,
+    x: OperationNo,
+    visible: usize,
+    next: usize,
+) -> TwoWords
+    requires { ⌜ (x .0 < 128) × (visible ≡ visibleWord (now rows) 0 (x .0)) × (next ≡ visibleWord (now rows) 1 (x .0)) ⌝ }
+    ensures { λ r. ⌜ ((i : ℕ) → bit (r .first) i ≡ localBit (now (rows .entry)) (stand .lo) (stand .hi) 0 (x .0) i) × ((i : ℕ) → bit (r .next) i ≡ localBit (now (rows .entry)) (stand .lo) (stand .hi) 1 (x .0) i) ⌝ }
 {
     let stores = set_of(rows, x, BYPASSES);
-    if subset(stores, stand) {
-        return 0;
-    }
-    pending_bits(rows, stand, minus(stores, stand))
+    pending_bits(rows, stand, minus(stores, stand), visible, next)
 }
 
 // Whether what is seen, of `own` where `local` is set and of `visible` elsewhere, is `data` in some bits.
@@ -199,19 +245,77 @@ fn agrees(own: u64, visible: u64, local: u64, data: u64, bits: u64) -> bool
     (seen ^ data) & bits == 0
 }
 
-// Rule 11: whether operation x reads what is recorded.
+// How many words of memory operation x reads.
+pub fn words_read(rows: &[u64; TABLE], x: OperationNo) -> usize
+    requires { ⌜ x .0 < 128 ⌝ }
+    ensures { λ r. ⌜ (r ≡ wordsRead (now (rows .entry)) (x .0)) × (r ≤ 2) ⌝ }
+{
+    if field_of(rows, x, READ_BITS) == 0 {
+        return 0;
+    }
+    if field_of(rows, x, READ_BITS + 1) == 0 {
+        return 1;
+    }
+    2
+}
+
+// Rule 11 for one word of memory: whether operation x reads what is recorded of its word h, by which word is visible to its processor and which bits it reads
+// from what that wrote.
+fn reads_word(
+    rows: &[u64; TABLE],
+    words: &[u64; WORDS],
+    x: OperationNo,
+    h: usize,
+    visible: usize,
+    local: u64,
+) -> bool
+    requires { ⌜ (x .0 < 128) × (h < 2) × (visible < 128) × (visible ≡ visibleWord (now rows) h (x .0)) ⌝ }
+    ensures { λ r. ⌜ r ≡ allBelow 64 (bitAgrees (now (rows .entry)) (now (words .entry)) local h (x .0)) ⌝ }
+{
+    let own = own_of(visible);
+    let bits = field_of(rows, x, READ_BITS + h);
+    let data = field_of(rows, x, READ_DATA + h);
+    agrees(words[own], words[visible], local, data, bits)
+}
+
+// Rule 11: whether operation x, which reads its first word, `visible`, reads what is recorded in it and, where it reads of it, in the next.
+fn reads_both(
+    rows: &[u64; TABLE],
+    words: &[u64; WORDS],
+    stand: Set,
+    x: OperationNo,
+    visible: usize,
+) -> bool
+    requires { ⌜ (x .0 < 128) × (visible < 128) × (visible ≡ visibleWord (now rows) 0 (x .0)) × (0 < wordsRead (now rows) (x .0)) ⌝ }
+    ensures { λ r. ⌜ r ≡ readsRecorded (now (rows .entry)) (stand .lo) (stand .hi) (now (words .entry)) (x .0) ⌝ }
+{
+    let next = word_of(rows, x, VISIBLE_WORD, 1);
+    let local = local_bits(rows, stand, x, visible, next);
+    if !reads_word(rows, words, x, 0, visible, local.first) {
+        return false;
+    }
+    if field_of(rows, x, READ_BITS + 1) == 0 {
+        return true;
+    }
+    reads_word(rows, words, x, 1, next, local.next)
+}
+
+// Rule 11: whether operation x reads what is recorded. Mostly it reads one word and no store of its processor is missing, so that is asked first. (Of a
+// semaphore's R its own store always is.)
 fn reads_right(rows: &[u64; TABLE], words: &[u64; WORDS], stand: Set, x: OperationNo) -> bool
     requires { ⌜ x .0 < 128 ⌝ }
     ensures { λ r. ⌜ r ≡ readsRecorded (now (rows .entry)) (stand .lo) (stand .hi) (now (words .entry)) (x .0) ⌝ }
 {
-    let bits = field_of(rows, x, READ_BITS);
-    if bits == 0 {
+    if field_of(rows, x, READ_BITS) == 0 {
         return true;
     }
-    let local = local_bits(rows, stand, x);
-    let own = word_at(words, field_of(rows, x, OWN_WORD));
-    let visible = word_at(words, field_of(rows, x, VISIBLE_WORD));
-    agrees(own, visible, local, field_of(rows, x, READ_DATA), bits)
+    let visible = word_of(rows, x, VISIBLE_WORD, 0);
+    if field_of(rows, x, READ_BITS + 1) == 0 {
+        if subset(set_of(rows, x, BYPASSES), stand) {
+            return reads_word(rows, words, x, 0, visible, 0);
+        }
+    }
+    reads_both(rows, words, stand, x, visible)
 }
 
 // Whether what must stand before operation x stands, and x reads what is recorded: `stand` has the operations that stand, `words` what they wrote.
@@ -225,7 +329,23 @@ pub fn is_enabled(rows: &[u64; TABLE], words: &[u64; WORDS], stand: Set, x: Oper
     reads_right(rows, words, stand, x)
 }
 
-// Whether operation x is enabled before any operation stands: nothing must stand before it, and what it reads is initial, so relative to the initial bytes 0.
+// Whether operation x reads what is initial, so relative to the initial bytes 0.
+fn reads_initial(rows: &[u64; TABLE], x: OperationNo) -> bool
+    requires { ⌜ x .0 < 128 ⌝ }
+    ensures { λ r. ⌜ r ≡ readsRecorded (now (rows .entry)) 0 0 firstWords (x .0) ⌝ }
+{
+    let n = words_read(rows, x);
+    for h in 0..n {
+        let bits = field_of(rows, x, READ_BITS + h);
+        let data = field_of(rows, x, READ_DATA + h);
+        if !agrees(0, 0, 0, data, bits) {
+            return false;
+        }
+    }
+    true
+}
+
+// Whether operation x is enabled before any operation stands: nothing must stand before it, and what it reads is initial.
 pub fn is_enabled_first(rows: &[u64; TABLE], x: OperationNo) -> bool
     requires { ⌜ x .0 < 128 ⌝ }
     ensures { λ r. ⌜ r ≡ enabled (now (rows .entry)) 0 0 firstWords (x .0) ⌝ }
@@ -234,27 +354,57 @@ pub fn is_enabled_first(rows: &[u64; TABLE], x: OperationNo) -> bool
     if !subset(set_of(rows, x, PREDS), none) {
         return false;
     }
-    let bits = field_of(rows, x, READ_BITS);
-    agrees(0, 0, 0, field_of(rows, x, READ_DATA), bits)
+    reads_initial(rows, x)
 }
 
-// Writes what operation x writes, and answers with the word that was there.
-pub fn write(rows: &[u64; TABLE], words: &mut [u64], x: OperationNo) -> u64
-    requires { ⌜ (x .0 < 128) × (length (now words) ≡ 128) ⌝ }
-    ensures { λ r. ⌜ (r ≡ getD (now (words .entry)) (writtenWord (now (rows .entry)) (x .0)) 0) × (now (words .exit) ≡ wordsWith (now (rows .entry)) (now (words .entry)) (x .0)) ⌝ }
+// Writes operation x's word h, and answers with what was there.
+fn write_word(rows: &[u64; TABLE], words: &mut [u64], x: OperationNo, h: usize) -> u64
+    requires { ⌜ (x .0 < 128) × (h < 2) × (length (now words) ≡ 128) ⌝ }
+    ensures { λ r. ⌜ (r ≡ getD (now (words .entry)) (writtenWord (now (rows .entry)) h (x .0)) 0) × (now (words .exit) ≡ wordOver (now (rows .entry)) (now (words .entry)) (x .0) h) ⌝ }
 {
-    let at = (field_of(rows, x, WRITTEN_WORD) % WORDS as u64) as usize;
+    let at = word_of(rows, x, WRITTEN_WORD, h);
     let old = words[at];
-    let kept = old ^ (old & field_of(rows, x, WRITTEN_BITS));
-    words[at] = kept | field_of(rows, x, WRITTEN_DATA);
+    let kept = old ^ (old & field_of(rows, x, WRITTEN_BITS + h));
+    words[at] = kept | field_of(rows, x, WRITTEN_DATA + h);
     old
 }
 
-// Puts back the word that operation x wrote over.
-pub fn unwrite(rows: &[u64; TABLE], words: &mut [u64], x: OperationNo, old: u64)
-    requires { ⌜ (x .0 < 128) × (length (now words) ≡ 128) ⌝ }
-    ensures { λ _. ⌜ now (words .exit) ≡ set (now (words .entry)) (writtenWord (now (rows .entry)) (x .0)) old ⌝ }
+// Writes what operation x writes, and keeps what was there as that of entry k.
+pub fn write(rows: &[u64; TABLE], words: &mut [u64], replaced: &mut [u64], k: usize, x: OperationNo)
+    requires { ⌜ (x .0 < 128) × (k < 128) × (length (now words) ≡ 128) × (length (now replaced) ≡ 256) ⌝ }
+    ensures { λ _. ⌜ (now (words .exit) ≡ wordsWith (now (rows .entry)) (now (words .entry)) (x .0)) × (now (replaced .exit) ≡ replacedWith (now (rows .entry)) (now (words .entry)) (now (replaced .entry)) k (x .0)) ⌝ }
 {
-    let at = (field_of(rows, x, WRITTEN_WORD) % WORDS as u64) as usize;
-    words[at] = old;
+    replaced[2 * k] = write_word(rows, words, x, 0);
+    if field_of(rows, x, WRITTEN_BITS + 1) != 0 {
+        replaced[2 * k + 1] = write_word(rows, words, x, 1);
+    }
+}
+
+// Puts back what operation x wrote over, as entry k, in its word h.
+fn put_back(
+    rows: &[u64; TABLE],
+    words: &mut [u64],
+    replaced: &[u64],
+    k: usize,
+    x: OperationNo,
+    h: usize,
+)
+    requires { ⌜ (x .0 < 128) × (h < 2) × (k < 128) × (2 * k + h < length (now replaced)) × (length (now words) ≡ 128) ⌝ }
+    ensures { λ _. ⌜ now (words .exit) ≡ set (now (words .entry)) (writtenWord (now (rows .entry)) h (x .0)) (getD (now (replaced .entry)) (2 * k + h) 0) ⌝ }
+{
+    let at = word_of(rows, x, WRITTEN_WORD, h);
+    words[at] = replaced[2 * k + h];
+}
+
+// Puts back all that it wrote over, the last word first.
+pub fn unwrite(rows: &[u64; TABLE], words: &mut [u64], replaced: &[u64], k: usize, x: OperationNo)
+    requires { ⌜ (x .0 < 128) × (k < 128) × (2 * k + 1 < length (now replaced)) × (length (now words) ≡ 128) ⌝ }
+    ensures { λ _. ⌜ now (words .exit) ≡ wordsWithout (now (rows .entry)) (now (words .entry)) (now (replaced .entry)) k (x .0) ⌝ }
+{
+    if field_of(rows, x, WRITTEN_BITS + 1) == 0 {
+        put_back(rows, words, replaced, k, x, 0);
+    } else {
+        put_back(rows, words, replaced, k, x, 1);
+        put_back(rows, words, replaced, k, x, 0);
+    }
 }

@@ -22,10 +22,11 @@ use relation_links::operations::Operations;
 use relation_links::operations::operations_of;
 use relation_marks::between::all_marks;
 use relation_places::place_all;
+use search_admit::TABLE;
 use search_enabled::affected_by;
 use search_resume::steps::Verdict;
 use search_resume::steps::search_from;
-use search_rows::table::rows_of;
+use search_rows::table::put_rows;
 
 pub enum SearchAnswer {
     Unfinished,
@@ -78,7 +79,8 @@ fn search_on(
     ensures { λ r. ⌜ replyOf r (now (buffer .exit)) ≡ searchReply saved (now (buffer .entry)) (searchPosition (executionOf (now (bytes .entry)) x) (take saved (now (buffer .entry))) allowance) ⌝ }
 {
     let n = t.count;
-    let rows = rows_of(bytes, x, t, marks);
+    let mut rows = [0u64; TABLE];
+    put_rows(bytes, x, t, marks, &mut rows);
     let given = saved_position(buffer, saved);
     let affected = affected_by(n, &rows);
     let outcome = search_from(n, given, allowance, &rows, &affected);

@@ -1,11 +1,11 @@
 -- The rows of K2 meet the hypotheses of `NextPrefix`: what is asked of all numbers below a bound is one computed test.
-use Prim.Native.Nat.{ℕ, zero, suc, _<_, _≤_}
+use Prim.Native.Nat.{ℕ, zero, suc, _+_, _*_, _<_, _≤_}
 use native.Mathlib.Omega.{arith}
 use native.Mathlib.Decide.{decLt}
 use mathlib.Core.Path.{_≡_, refl, sym, _∙_}
 use mathlib.Core.Bool.{Bool, true, false, Bool·beq, false≢true}
 use mathlib.Core.List.{List, [], _∷_}
-use lib.ListN.{replicate}
+use lib.ListN.{getD, take, replicate}
 use lib.Dec.{eqb, ltb}
 use borrow.Author.Tests.{eqb-true, ltb-true}
 use Rattle.base.specs.Lists.{all, any, keep, when, for, count, below, member, distinct}
@@ -15,10 +15,10 @@ use Rattle.base.specs.Lex.{lexLess}
 use Rattle.base.proofs.Bools.{beq-same, and-parts, is-false}
 use Rattle.base.proofs.Lists.{member-in, distinct-in}
 use Rattle.base.proofs.Tests.{all-at}
-use Rattle.model.specs.Execution.{roles, placeAmong, remotesAt, operationCount, operations, operationsOf, allOperations, loads, stores, semaphores, attributes, lineAt, attributeAt}
-use Rattle.model.specs.Questions.{next, item, byte, ask, question2, question3, question4, question5, question6, question7, question8, question26, question9, question11, question12, question15, many, lineOf, readLine, readLines, seenOf, wroteOf, instructionOf, readInstruction, readProgram, readPrograms, readInstructions, readPairs, readRecord}
+use Rattle.model.specs.Execution.{roles, placeAmong, remotesAt, operationCount, operations, operationsOf, allOperations, loads, stores, semaphores, attributes, lineAt, linesFrom, attributeAt}
+use Rattle.model.specs.Questions.{next, item, byte, ask, question2, question3, question4, question5, question6, question7, question8, question26, question27, question9, question11, question12, question15, many, lineOf, readLine, readLines, seenOf, wroteOf, instructionOf, readInstruction, readProgram, readPrograms, readInstructions, readPairs, readRecord}
 use Rattle.model.specs.ProgramOrder.{ruleMarks, marks}
-use Rattle.model.specs.Rules.{before, addresses, accesses, overlap, link1, link2, link3, link4, link5, link6, link7, paired, link8, link13, link15, linksOf, conflict, forConflicts, rule9, rule10, sightOf, rule11, rule12, rule14, rule16, rules, linked, byteOf, latest, local, byteRead, broken, keeps, consistent}
+use Rattle.model.specs.Rules.{before, addresses, accesses, sharedBytes, overlap, link1, link2, link3, link4, link5, link6, link7, paired, link8, link13, link15, linksOf, conflict, forConflicts, rule9, rule10, sightOf, rule11, rule12, rule14, rule16, rules, linked, byteOf, latest, local, byteRead, broken, keeps, consistent}
 use Rattle.model.specs.Calls.{says, answerOf, readAll}
 use Rattle.model.specs.Notation.{zeros, recordOf}
 use Rattle.model.specs.PaperTable.{k2}
@@ -29,8 +29,9 @@ use Rattle.relation_marks.specs.Marks.{earlierOf, givenPair, marksOf, marksBetw
 use Rattle.relation_places.specs.Places.{placeFrom, placed, Placed}
 use Rattle.relation_places.proofs.PlaceLaws.{place-absent, placed-past}
 use Rattle.search_sets.specs.Set.{holds}
-use Rattle.search_admit.specs.Rows.{field, wordsFrom, partner, covers, dataBit, awaitedBy, RowOf, Bytes, RowsMean}
-use Rattle.search_admit.specs.Fits.{lastEntry, dueOf, bothOrNeither, refused, pending, localBit, readsRecorded, enabled, fitsBy, Tested}
+use Rattle.search_admit.specs.Rows.{field, writtenWord, writesBit, wordsUpTo, wordsFrom, wordsAfter, partner, covers, dataBit, awaitedBy, RowOf, Bytes, RowsMean}
+use Rattle.search_admit.specs.Fits.{lastEntry, dueOf, bothOrNeither, refused, pending, localBit, wordRecorded, readsRecorded, enabled, fitsBy, Tested}
+use Rattle.search_admit.proofs.WordLaws.{few-written}
 use Rattle.search_walk.specs.Walks.{Levels, Closed, IsNext, IsLast, Kept}
 use Rattle.search_walk.proofs.Gaps.{closed-front, gap-starts, gap-more, gap-up, gap-last, gap-next}
 use Rattle.search_claim.specs.NextRow.{k2Arrays, k2Operations, k2Marks, k2Rows, nextPosition, nextPlaces, nextLevels, nextWords, nextReplaced, NextRow, EndRow}
@@ -46,6 +47,10 @@ same p q n t i h = beq-same (p i) (q i) (all-at (λ i. Bool·beq (p i) (q i)) n 
 same-to : (p q : ℕ → ℕ → Bool) (n m : ℕ) → allBelow (suc n) (λ i. allBelow m (λ j. Bool·beq (p i j) (q i j))) ≡ true
     → (i j : ℕ) → i ≤ n → j < m → p i j ≡ q i j
 same-to p q n m t i j h = same (p i) (q i) m (all-at (λ i. allBelow m (λ j. Bool·beq (p i j) (q i j))) (suc n) t i (omega arith)) j
+
+-- two tests of the bits of both words
+pub same-words : (p q : ℕ → ℕ → Bool) → allBelow 2 (λ h. allBelow 64 (λ i. Bool·beq (p h i) (q h i))) ≡ true → (h i : ℕ) → h < 2 → i < 64 → p h i ≡ q h i
+same-words p q t h i l = same-to p q 1 64 t h i (omega arith)
 
 -- two functions are equal below a bound
 equal : (f g : ℕ → ℕ) (n : ℕ) → allBelow n (λ i. eqb (f i) (g i)) ≡ true → (i : ℕ) → i < n → f i ≡ g i
@@ -77,29 +82,28 @@ places-are n xs places few different t = record { few = few; different = differe
 
 -- the record is accepted, and the arrays hold its execution
 accepts : readAll k2 ≡ says (executionOf k2 k2Arrays)
-unfolding all for count below member attributes roles operationCount next item byte ask question2 question3 question4 question5 question6 question7 question8 question26 question9 question11 question12 question15 many lineOf readLine readLines instructionOf readInstruction readProgram readPrograms readInstructions readPairs readRecord answerOf readAll zeros recordOf k2 dataOf seenOf wroteOf decodedLine linesOf instructionAt instructionsOf pairsOf executionOf k2Arrays
+unfolding all for count below member attributes roles operationCount linesFrom next item byte ask question2 question3 question4 question5 question6 question7 question8 question26 question27 question9 question11 question12 question15 many lineOf readLine readLines instructionOf readInstruction readProgram readPrograms readInstructions readPairs readRecord answerOf readAll zeros recordOf k2 dataOf seenOf wroteOf decodedLine linesOf instructionAt instructionsOf pairsOf executionOf k2Arrays
 accepts = refl
 
 -- the table of operations, and the marks
 compiles : CompiledIn k2 k2Arrays k2Operations k2Marks
-unfolding any for count below member allBelow packed packedOn roles remotesAt placeAmong operationCount operations operationsOf allOperations lineAt attributeAt addresses accesses overlap conflict executionOf linesOf decodedLine instructionsOf instructionAt pairsOf operationAt tableOf ruleMarks marks earlierOf givenPair marksOf marksBetween k2Arrays k2Operations k2Marks
+unfolding any keep for count below member allBelow packed packedOn roles remotesAt placeAmong operationCount operations operationsOf allOperations lineAt attributeAt addresses accesses sharedBytes overlap conflict executionOf linesOf decodedLine instructionsOf instructionAt pairsOf operationAt tableOf ruleMarks marks earlierOf givenPair marksOf marksBetween k2Arrays k2Operations k2Marks
 compiles = record { tabled = record { holds = refl; counts = refl }; marked = equal-two _ _ 2 2 refl }
 
 -- the row of each operation
 row-of : (o : ℕ) → o < 3 → RowOf k2Arrays k2Operations k2Marks o k2 (λ f. field k2Rows f o)
-unfolding any allBelow anyBelow operationCount operations roles remotesAt placeAmong stores keep count below attributeAt lineAt addresses accesses overlap link1 link2 link3 link4 link5 link6 link7 paired link8 link13 link15 linked executionOf linesOf decodedLine instructionsOf instructionAt pairsOf operationAt holds partner covers dataBit awaitedBy k2Arrays k2Operations k2Marks k2Rows for initialOf zeros recordOf k2
+unfolding any allBelow anyBelow operationCount operations roles remotesAt placeAmong stores keep count below attributeAt lineAt addresses accesses sharedBytes overlap link1 link2 link3 link4 link5 link6 link7 paired link8 link13 link15 linked executionOf linesOf decodedLine instructionsOf instructionAt pairsOf operationAt holds partner covers dataBit awaitedBy k2Arrays k2Operations k2Marks k2Rows for initialOf zeros recordOf k2
 row-of zero h = record {
   preds-are = same _ _ 128 refl;
   partners-are = same _ _ 128 refl;
   awaited-are = same _ _ 128 refl;
   bypasses-are = same _ _ 128 refl;
-  writes-bits = same _ _ 64 refl;
-  writes-data = same _ _ 64 refl;
+  writes-bits = same-words _ _ refl;
+  writes-data = same-words _ _ refl;
   writes-word = λ w. refl;
-  reads-bits = same _ _ 64 refl;
-  reads-data = same _ _ 64 refl;
+  reads-bits = same-words _ _ refl;
+  reads-data = same-words _ _ refl;
   reads-visible = λ r. refl;
-  reads-own = λ r. refl;
   own-is = refl;
   local-is = refl;
   read-is = refl;
@@ -109,13 +113,12 @@ row-of (suc zero) h = record {
   partners-are = same _ _ 128 refl;
   awaited-are = same _ _ 128 refl;
   bypasses-are = same _ _ 128 refl;
-  writes-bits = same _ _ 64 refl;
-  writes-data = same _ _ 64 refl;
+  writes-bits = same-words _ _ refl;
+  writes-data = same-words _ _ refl;
   writes-word = λ w. refl;
-  reads-bits = same _ _ 64 refl;
-  reads-data = same _ _ 64 refl;
+  reads-bits = same-words _ _ refl;
+  reads-data = same-words _ _ refl;
   reads-visible = λ r. refl;
-  reads-own = λ r. refl;
   own-is = refl;
   local-is = refl;
   read-is = refl;
@@ -125,13 +128,12 @@ row-of (suc (suc zero)) h = record {
   partners-are = same _ _ 128 refl;
   awaited-are = same _ _ 128 refl;
   bypasses-are = same _ _ 128 refl;
-  writes-bits = same _ _ 64 refl;
-  writes-data = same _ _ 64 refl;
+  writes-bits = same-words _ _ refl;
+  writes-data = same-words _ _ refl;
   writes-word = λ w. absurd (false≢true w);
-  reads-bits = same _ _ 64 refl;
-  reads-data = same _ _ 64 refl;
+  reads-bits = same-words _ _ refl;
+  reads-data = same-words _ _ refl;
   reads-visible = λ r. refl;
-  reads-own = λ r. refl;
   own-is = refl;
   local-is = refl;
   read-is = refl;
@@ -150,23 +152,27 @@ rows-are = record {
 
 -- both prefixes are consistent
 both-consist : (consistent (executionOf k2 k2Arrays) (0 ∷ []) ≡ true) × (consistent (executionOf k2 k2Arrays) (0 ∷ 1 ∷ []) ≡ true)
-unfolding any keep when for count below member roles remotesAt placeAmong operationCount operations operationsOf allOperations loads stores semaphores lineAt attributeAt before addresses accesses overlap link1 link2 link3 link4 link5 link6 link7 paired link8 link13 link15 linksOf conflict forConflicts rule9 rule10 sightOf rule11 rule12 rule14 rule16 rules byteOf latest local byteRead broken keeps consistent dataOf seenOf wroteOf decodedLine linesOf instructionAt instructionsOf pairsOf executionOf k2Arrays zeros recordOf k2
+unfolding any keep when for count below member roles remotesAt placeAmong operationCount operations operationsOf allOperations loads stores semaphores lineAt attributeAt before addresses accesses sharedBytes overlap link1 link2 link3 link4 link5 link6 link7 paired link8 link13 link15 linksOf conflict forConflicts rule9 rule10 sightOf rule11 rule12 rule14 rule16 rules byteOf latest local byteRead broken keeps consistent dataOf seenOf wroteOf decodedLine linesOf instructionAt instructionsOf pairsOf executionOf k2Arrays zeros recordOf k2
 both-consist = (refl, refl)
 
 -- What is kept of 0 1
 
 -- the sets of each level
 levels-are : Levels 3 k2Rows nextPosition nextLevels 2
-unfolding member allBelow anyBelow holds wordsFrom lastEntry dueOf bothOrNeither pending localBit readsRecorded enabled k2Rows
+unfolding member allBelow anyBelow holds wordsUpTo wordsFrom lastEntry dueOf bothOrNeither pending localBit writesBit wordRecorded readsRecorded enabled k2Rows
 levels-are = record { stood = same-to _ _ 2 128 refl; able = same-to _ _ 2 3 refl; due = same-to _ _ 2 3 refl }
 
 -- the places, the sets and the words
 kept-are : Kept 3 k2Rows nextPosition nextPlaces nextLevels nextWords nextReplaced 2
-unfolding distinct member allBelow placed placeFrom wordsFrom k2Rows
+unfolding distinct member allBelow placed placeFrom wordsUpTo wordsFrom k2Rows
 kept-are = record {
   placed = places-are 3 (0 ∷ 1 ∷ []) nextPlaces (omega arith) refl refl;
   levelled = levels-are;
-  remembered = record { now-are = refl; were = equal _ _ 2 refl };
+  remembered = record {
+    now-are = refl;
+    were = λ j h l g. equal-two (λ j h. getD nextReplaced (2 * j + h) 0)
+        (λ j h. getD (wordsUpTo k2Rows (wordsAfter k2Rows (take j nextPosition)) (getD nextPosition j 0) h) (writtenWord k2Rows h (getD nextPosition j 0)) 0) 2 2 refl j h l (omega (arith, g, few-written k2Rows (getD nextPosition j 0)));
+  };
 }
 
 -- Any test of prefixes that the rows decide
@@ -183,7 +189,7 @@ module _ (c : List ℕ → Bool) (tested : Tested c 3 k2Rows) where
 
   -- behind 0 may stand 1, and not 2
   second : c (0 ∷ []) ≡ true → (c (0 ∷ 1 ∷ []) ≡ true) × (c (0 ∷ 2 ∷ []) ≡ false)
-  unfolding distinct member allBelow anyBelow holds placed placeFrom wordsFrom lastEntry dueOf bothOrNeither refused pending localBit readsRecorded fitsBy k2Rows
+  unfolding distinct member allBelow anyBelow holds placed placeFrom wordsUpTo wordsFrom lastEntry dueOf bothOrNeither refused pending localBit writesBit wordRecorded readsRecorded fitsBy k2Rows
   second h =
       let one : Placed 3 (0 ∷ []) (0 ∷ replicate 127 255) = places-are 3 (0 ∷ []) (0 ∷ replicate 127 255) (omega arith) refl refl in (
         sym (tested .one-more (0 ∷ []) (0 ∷ replicate 127 255) 1 0 1 h one (same _ _ 128 refl) (omega arith)),
@@ -192,7 +198,7 @@ module _ (c : List ℕ → Bool) (tested : Tested c 3 k2Rows) where
 
   -- behind 0 1 not 2 either
   not-third : c (0 ∷ 1 ∷ []) ≡ true → c (0 ∷ 1 ∷ 2 ∷ []) ≡ false
-  unfolding member allBelow anyBelow holds wordsFrom lastEntry dueOf bothOrNeither refused pending localBit readsRecorded fitsBy k2Rows
+  unfolding member allBelow anyBelow holds wordsUpTo wordsFrom lastEntry dueOf bothOrNeither refused pending localBit writesBit wordRecorded readsRecorded fitsBy k2Rows
   not-third h = sym (tested .one-more (0 ∷ 1 ∷ []) nextPlaces 3 0 2 h (kept-are .placed) (same _ _ 128 refl) (omega arith))
 
   module _ (closed : Closed c) where

@@ -39,15 +39,16 @@ k2Operations = record { count = 3; owners = 0 ∷ 0 ∷ 1 ∷ replicate 125 0; r
 unfoldable pub k2Marks : List (List ℕ)
 k2Marks = (1 ∷ 16 ∷ []) ∷ (0 ∷ 1 ∷ []) ∷ []
 
--- A row of eighteen words for each operation (`search_admit/specs/Rows.antt`), then zeros: no more rows. K2's initial bytes are zero, and relative to them a
+-- A row of 21 words for each operation (`search_admit/specs/Rows.antt`), then zeros: no more rows. K2's initial bytes are zero, and relative to them a
 -- byte is itself. Words 0 and 1 of a row: 0 must stand before 1 and before 2. Words 6 and 7: the R may read the byte of the store whose own RV is 1 before that
--- stands. Words 8 to 10: the LV writes the byte 1 to word 64 of memory, the RV to word 0. Words 11 to 14: the R reads a byte, of which it saw 0, from word 0 or
--- 64. Words 15 and 16: of the LV and the RV both the own RV and the LV, of the R itself. Word 17: itself, since there is no semaphore.
+-- stands. Words 8 to 12: the LV writes the byte 1 to word 64 of memory, the RV to word 0, and nothing to the next. Words 13 to 17: the R reads a byte, of which it
+-- saw 0, from word 0 or, 64 behind, from what its processor wrote, and nothing from the next. Words 18 and 19: of the LV and the RV both the own RV and the LV, of
+-- the R itself. Word 20: itself, since there is no semaphore.
 unfoldable pub k2Rows : List ℕ
 k2Rows =
-    (0 ∷ 0 ∷ 0 ∷ 0 ∷ 0 ∷ 0 ∷ 0 ∷ 0 ∷ 255 ∷ 1 ∷ 64 ∷ 0 ∷ 0 ∷ 0 ∷ 64 ∷ 1 ∷ 0 ∷ 0 ∷ [])
-    ++ (1 ∷ 0 ∷ 0 ∷ 0 ∷ 0 ∷ 0 ∷ 0 ∷ 0 ∷ 255 ∷ 1 ∷ 0 ∷ 0 ∷ 0 ∷ 0 ∷ 64 ∷ 1 ∷ 0 ∷ 1 ∷ [])
-    ++ (1 ∷ 0 ∷ 0 ∷ 0 ∷ 0 ∷ 0 ∷ 2 ∷ 0 ∷ 0 ∷ 0 ∷ 127 ∷ 255 ∷ 0 ∷ 0 ∷ 64 ∷ 2 ∷ 2 ∷ 2 ∷ [])
+    (0 ∷ 0 ∷ 0 ∷ 0 ∷ 0 ∷ 0 ∷ 0 ∷ 0 ∷ 255 ∷ 0 ∷ 1 ∷ 0 ∷ 64 ∷ 0 ∷ 0 ∷ 0 ∷ 0 ∷ 0 ∷ 1 ∷ 0 ∷ 0 ∷ [])
+    ++ (1 ∷ 0 ∷ 0 ∷ 0 ∷ 0 ∷ 0 ∷ 0 ∷ 0 ∷ 255 ∷ 0 ∷ 1 ∷ 0 ∷ 0 ∷ 0 ∷ 0 ∷ 0 ∷ 0 ∷ 0 ∷ 1 ∷ 0 ∷ 1 ∷ [])
+    ++ (1 ∷ 0 ∷ 0 ∷ 0 ∷ 0 ∷ 0 ∷ 2 ∷ 0 ∷ 0 ∷ 0 ∷ 0 ∷ 0 ∷ 127 ∷ 255 ∷ 0 ∷ 0 ∷ 0 ∷ 0 ∷ 2 ∷ 2 ∷ 2 ∷ [])
     ++ replicate (tableLength - 3 * rowLength) 0
 
 -- What the walk leaves at 0 1
@@ -74,9 +75,9 @@ nextLevels =
 abbrev pub nextWords : List ℕ
 nextWords = set (set (replicate 128 0) 64 1) 0 1
 
--- what each of the two entries wrote over: zero
+-- what each of the two entries wrote over, two words each: zero
 abbrev pub nextReplaced : List ℕ
-nextReplaced = replicate 128 0
+nextReplaced = replicate 256 0
 
 -- From 0 the walk comes to 0 1, which the claim then says is the next.
 abbrev pub NextRow : Type 0

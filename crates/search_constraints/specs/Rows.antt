@@ -1,5 +1,5 @@
 -- What the sets of operations hold, by the tables.
-use Prim.Native.Nat.{ℕ, _+_, _-_, _/_}
+use Prim.Native.Nat.{ℕ, _+_, _-_}
 use mathlib.Core.Bool.{Bool, not, _&&_}
 use mathlib.Core.List.{List}
 use lib.ListN.{length, getD}
@@ -7,7 +7,7 @@ use lib.Dec.{eqb, leb, ltb}
 use Rattle.base.specs.Below.{anyBelow}
 use Rattle.model.specs.Execution.{Kind, kindRow, kindOf, isStore, F, RV, remotesAt, roles, numberFrom}
 use Rattle.record_decoded.specs.Kinds.{roleNumbered}
-use Rattle.relation_marks.specs.Marks.{hasMark, atomicMark, markAt}
+use Rattle.relation_marks.specs.Marks.{sharedBy, hasMark, atomicMark, markAt}
 use Rattle.relation_links.specs.Linked.{linkedBy}
 
 -- The instruction is given by its kind and the number of its first operation.
@@ -37,15 +37,15 @@ unfoldable pub linkedFrom : ℕ → Kind → ℕ → ℕ → ℕ → ℕ → ℕ
 linkedFrom marks kind p first processors role a =
     leb first a && (ltb a (first + length (roles processors kind)) && linkedBy marks p (getD (roles processors kind) (a - first) F) (roleNumbered role))
 
--- By the kinds, first operations, processors and addresses of the instructions
+-- By the kinds, first operations, processors, addresses and sizes of the instructions
 
 -- a is an operation of instruction v, and some rule links it to one of instruction w with a role
 abbrev pub linkedOf : ℕ → List ℕ → List ℕ → List ℕ → List (List ℕ) → ℕ → ℕ → ℕ → ℕ → Bool
 linkedOf every kinds firsts processors marks w role v a =
     linkedFrom (markAt marks v w) (kindOf (getD kinds v 0)) (getD processors v 0) (getD firsts v 0) every role a
 
--- instruction v is a store of w's processor to its line
-abbrev pub storesToLineBy : List ℕ → List ℕ → List ℕ → ℕ → ℕ → Bool
-storesToLineBy kinds processors addresses w v =
+-- instruction v is a store of w's processor to some of its bytes
+abbrev pub storesToItsBy : List ℕ → List ℕ → List ℕ → List ℕ → ℕ → ℕ → Bool
+storesToItsBy kinds processors addresses sizes w v =
     isStore (kindOf (getD kinds v 0))
-    && (eqb (getD processors v 0) (getD processors w 0) && eqb (getD addresses v 0 / 8) (getD addresses w 0 / 8))
+    && (eqb (getD processors v 0) (getD processors w 0) && ltb 0 (length (sharedBy (getD addresses v 0) (getD sizes v 0) (getD addresses w 0) (getD sizes w 0))))

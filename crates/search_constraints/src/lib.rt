@@ -1,7 +1,7 @@
 // The sets of operations that the search reads, for each operation.
 ghost use mathlib.Core.Path.{_≡_};
 ghost use mathlib.Core.Bool.{true, false, _&&_, _||_};
-ghost use Prim.Native.Nat.{ℕ, _/_, _<_, _≤_};
+ghost use Prim.Native.Nat.{ℕ, _<_, _≤_};
 ghost use lib.ListN.{getD};
 ghost use lib.Dec.{eqb};
 ghost use Rattle.model.specs.Execution as model;
@@ -12,7 +12,7 @@ ghost use Rattle.search_sets.specs.Set.{holds};
 ghost use Rattle.base.specs.Below.{anyBelow};
 ghost use Rattle.search_admit.specs.Rows.{awaitedBy};
 ghost use Rattle.relation_links.specs.Linked.{linkedBy};
-ghost use Rattle.search_constraints.specs.Rows.{isRemote, partnerOf, remoteLinked, localLinked, linkedFrom, linkedOf, storesToLineBy};
+ghost use Rattle.search_constraints.specs.Rows.{isRemote, partnerOf, remoteLinked, localLinked, linkedFrom, linkedOf, storesToItsBy};
 use record_decoded::kind::Kind;
 use record_decoded::kind::ROLE_R;
 use record_decoded::kind::ROLE_RV;
@@ -38,6 +38,7 @@ use relation_marks::table::REMOTE_LINK_MARKS;
 use relation_marks::table::SAME;
 use relation_marks::table::both;
 use relation_marks::table::has_mark;
+use relation_marks::table::shared_bytes;
 use search_sets::Set;
 use search_sets::insert_if;
 
@@ -232,25 +233,26 @@ pub fn awaited_at<'a>(
     set
 }
 
-// Whether an instruction is a store of a processor to a line.
-fn stores_to_line(kind: Kind, processor: u8, address: u8, own: u8, line: u8) -> bool
-    ensures { λ r. ⌜ r ≡ (isStore (meant kind) && (eqb processor own && eqb (address / 8) line)) ⌝ }
+// Whether an instruction is a store of a processor, and shares a byte.
+fn is_own_store(kind: Kind, processor: u8, own: u8, shares: bool) -> bool
+    ensures { λ r. ⌜ r ≡ (isStore (meant kind) && (eqb processor own && shares)) ⌝ }
 {
-    both(is_store(kind), both(processor == own, address / 8 == line))
+    both(is_store(kind), both(processor == own, shares))
 }
 
-// The own RVs of the stores of instruction w's processor to its line, for an R; for another role none.
+// The own RVs of the stores of instruction w's processor to some of its bytes, for an R; for another role none.
 pub fn bypasses_at<'a>(
     n: usize,
     kinds: &'a [u8; MOST_INSTRUCTIONS],
     firsts: &'a [u16; MOST_INSTRUCTIONS],
     processors: &'a [u8; MOST_INSTRUCTIONS],
     addresses: &'a [u8; MOST_INSTRUCTIONS],
+    sizes: &'a [u8; MOST_INSTRUCTIONS],
     w: InstructionNo,
     role: u8,
 ) -> Set
     requires { ⌜ (n ≤ 40) × (w .0 < 40) ⌝ }
-    ensures { λ r. ⌜ ((a : ℕ) → a < 128 → holds (r .lo) (r .hi) a ≡ anyBelow n (λ (v : ℕ). eqb role 0 && (storesToLineBy (now (kinds .entry)) (now (processors .entry)) (now (addresses .entry)) (w .0) v && eqb a (numberFrom (getD (now (firsts .entry)) v 0) (kindOf (getD (now (kinds .entry)) v 0)) (RV (getD (now (processors .entry)) v 0)))))) ⌝ }
+    ensures { λ r. ⌜ ((a : ℕ) → a < 128 → holds (r .lo) (r .hi) a ≡ anyBelow n (λ (v : ℕ). eqb role 0 && (storesToItsBy (now (kinds .entry)) (now (processors .entry)) (now (addresses .entry)) (now (sizes .entry)) (w .0) v && eqb a (numberFrom (getD (now (firsts .entry)) v 0) (kindOf (getD (now (kinds .entry)) v 0)) (RV (getD (now (processors .entry)) v 0)))))) ⌝ }
 {
     let mut set = Set { lo: 0, hi: 0 };
     if role != ROLE_R {
@@ -258,11 +260,14 @@ pub fn bypasses_at<'a>(
     }
     let reader = w.0;
     let own = processors[reader];
-    let line = addresses[reader] / 8;
+    let address = addresses[reader];
+    let size = sizes[reader];
     for v in 0..n {
         let processor = processors[v];
         let kind = kind_of(kinds[v]);
-        let wanted = stores_to_line(kind, processor, addresses[v], own, line);
+        let shared = shared_bytes(addresses[v], sizes[v], address, size);
+        let shares = shared.from < shared.end;
+        let wanted = is_own_store(kind, processor, own, shares);
         let first = wide16(firsts[v]);
         let to = wide(processor);
         let own_rv = number_of(OperationNo(first), kind, Role::RV(to));

@@ -2,8 +2,9 @@
 use Prim.Native.Nat.{ℕ, _+_, _*_, _<_}
 use native.Mathlib.Omega.{arith}
 use native.Mathlib.Decide.{ℕ-discrete}
+use native.Mathlib.Numerals.{add-one}
 use mathlib.Core.Path.{_≡_, refl, sym, ap, ap₂, _∙_}
-use mathlib.Core.Bool.{Bool, true, false, not, cond, _&&_, _||_, and-true, and-false, or-false, false≢true}
+use mathlib.Core.Bool.{Bool, true, false, not, cond, _&&_, _||_, and-true, and-false, or-false, or-assoc, false≢true}
 use mathlib.Core.List.{List}
 use lib.ListN.{length, getD}
 use lib.Dec.{eqb, ltb}
@@ -13,9 +14,10 @@ use Rattle.base.proofs.Bools.{agree}
 use Rattle.base.proofs.Tests.{all-at}
 use Rattle.search_sets.specs.Set.{holds, setAt}
 use Rattle.search_sets.proofs.Tables.{putAt, put-here, put-other}
-use Rattle.search_admit.specs.Rows.{field, precedes, partnerBy, bypasses, readBits, localOf}
+use Rattle.search_admit.specs.Rows.{field, precedes, partnerBy, bypasses, writtenBits, writtenWord, visibleWord, ownWord, wordsRead, localOf}
 use Rattle.search_admit.specs.Fits.{enabled, dueAfter}
-use Rattle.search_enabled.specs.Affects.{writesWordOf, localTo, affects, enabledAfter}
+use Rattle.search_admit.proofs.TestLaws.{writes-one, writes-two}
+use Rattle.search_enabled.specs.Affects.{writesWord, writesEither, writesWordOf, localTo, affects, enabledAfter}
 
 -- those that x does not affect, and those that are asked anew
 pub after-is : (rows affected words : List ℕ) (elo ehi lo hi x y tlo thi alo ahi klo khi wlo whi : ℕ) → tlo ≡ getD affected (2 * x) 0 → thi ≡ getD affected (2 * x + 1) 0
@@ -85,22 +87,43 @@ affected-more t a y lo hi slo shi k long l low high more b small = go (ℕ-discr
         ∙ sym (ap (λ (d : Bool). setAt t b k || d) (ap (λ (d : Bool). eqb k y && d) (ne-eqb b a e) ∙ and-false (eqb k y)) ∙ or-false (setAt t b k))
 
 -- what affects y, by the sets that it is made of
-module _ (rows : List ℕ) (a y : ℕ) where
-  pub affects-none : (plo phi : ℕ) {bits : ℕ} → plo ≡ field rows 0 y → phi ≡ field rows 1 y → bits ≡ readBits rows y → bits ≡ 0 → holds plo phi a ≡ affects rows a y
+module _ (rows : List ℕ) (a y : ℕ) {count : ℕ} (is : count ≡ wordsRead rows y) where
+  pub affects-none : (plo phi : ℕ) → plo ≡ field rows 0 y → phi ≡ field rows 1 y → count ≡ 0 → holds plo phi a ≡ affects rows a y
   unfolding affects
-  affects-none plo phi low high is none =
+  affects-none plo phi low high none =
       ap₂ (λ (u v : ℕ). holds u v a) low high
-      ∙ sym (ap (λ (b : Bool). precedes rows y a || not b && ((bypasses rows y a || localTo rows a y) || writesWordOf rows a y)) (eq-eqb (readBits rows y) 0 (sym is ∙ none)) ∙ or-false (precedes rows y a))
+      ∙ sym (ap (λ (b : Bool). precedes rows y a || not b && ((bypasses rows y a || localTo rows a y) || writesWordOf rows a y)) (eq-eqb (wordsRead rows y) 0 (sym is ∙ none)) ∙ or-false (precedes rows y a))
 
-  pub affects-some : (plo phi slo shi llo lhi wlo whi : ℕ) {bits : ℕ} {r : Bool} → plo ≡ field rows 0 y → phi ≡ field rows 1 y → slo ≡ field rows 6 y → shi ≡ field rows 7 y
-      → bits ≡ readBits rows y → (bits ≡ 0 → ⊥) → holds llo lhi a ≡ (holds slo shi a || anyBelow 128 (λ m. holds slo shi m && eqb (localOf rows m) a))
-      → holds wlo whi a ≡ (holds llo lhi a || writesWordOf rows a y) → r ≡ (holds plo phi a || holds wlo whi a) → r ≡ affects rows a y
-  unfolding affects localTo
-  affects-some plo phi slo shi llo lhi wlo whi low high low' high' is some locals writers all =
+  pub affects-some : (plo phi slo shi llo lhi wlo whi : ℕ) {r : Bool} → plo ≡ field rows 0 y → phi ≡ field rows 1 y → slo ≡ field rows 6 y → shi ≡ field rows 7 y
+      → (count ≡ 0 → ⊥) → holds llo lhi a ≡ (holds slo shi a || anyBelow 128 (λ m. holds slo shi m && eqb (localOf rows m) a))
+      → holds wlo whi a ≡ (holds llo lhi a || anyBelow count (λ h. writesEither rows (visibleWord rows h y) (ownWord rows h y) a)) → r ≡ (holds plo phi a || holds wlo whi a) → r ≡ affects rows a y
+  unfolding affects localTo writesWordOf
+  affects-some plo phi slo shi llo lhi wlo whi low high low' high' some locals writers all =
       all
       ∙ ap₂ (λ (b d : Bool). b || d) (ap₂ (λ (u v : ℕ). holds u v a) low high)
-      (writers ∙ ap (λ (b : Bool). b || writesWordOf rows a y) (locals ∙ ap₂ (λ (u v : ℕ). holds u v a || anyBelow 128 (λ m. holds u v m && eqb (localOf rows m) a)) low' high'))
-      ∙ ap (λ (b : Bool). precedes rows y a || not b && ((bypasses rows y a || localTo rows a y) || writesWordOf rows a y)) (sym (ne-eqb (readBits rows y) 0 (λ e. some (is ∙ e))))
+      (writers ∙ ap₂ (λ (b : Bool) (n : ℕ). b || anyBelow n (λ h. writesEither rows (visibleWord rows h y) (ownWord rows h y) a)) (locals ∙ ap₂ (λ (u v : ℕ). holds u v a || anyBelow 128 (λ m. holds u v m && eqb (localOf rows m) a)) low' high') is)
+      ∙ ap (λ (b : Bool). precedes rows y a || not b && ((bypasses rows y a || localTo rows a y) || writesWordOf rows a y)) (sym (ne-eqb (wordsRead rows y) 0 (λ e. some (is ∙ e))))
+
+-- whether an operation writes a word, by the number of its words
+module _ (rows : List ℕ) (a v : ℕ) {first : ℕ} (is : first ≡ writtenWord rows 0 a) {next : ℕ} (next-is : next ≡ writtenBits rows 1 a) where
+  pub writes-alone : next ≡ 0 → eqb first v ≡ writesWord rows a v
+  unfolding writesWord anyBelow
+  writes-alone z = ap (λ (u : ℕ). eqb u v) is ∙ sym (ap (λ (n : ℕ). anyBelow n (λ g. eqb (writtenWord rows g a) v)) (writes-one rows a next-is z))
+
+  pub writes-next : (next ≡ 0 → ⊥) → {second : ℕ} → second ≡ writtenWord rows 1 a → (eqb first v || eqb second v) ≡ writesWord rows a v
+  unfolding writesWord anyBelow
+  writes-next z e =
+      ap₂ (λ (u w : ℕ). eqb u v || eqb w v) is e ∙ sym (ap (λ (n : ℕ). anyBelow n (λ g. eqb (writtenWord rows g a) v)) (writes-two rows a next-is z))
+
+-- those that write one word more
+pub writers-none : (p : ℕ → Bool) (s : Bool) → s ≡ (s || anyBelow 0 p)
+unfolding anyBelow
+writers-none p s = sym (or-false s)
+
+pub writers-more : (p : ℕ → Bool) (h : ℕ) (s : Bool) {all w r : Bool} → all ≡ (s || anyBelow h p) → w ≡ p h → r ≡ (all || w) → r ≡ (s || anyBelow (h + 1) p)
+unfolding anyBelow
+writers-more p h s {all} {w} {r} e f g =
+    g ∙ ap₂ _||_ e f ∙ or-assoc s (anyBelow h p) (p h) ∙ ap (λ (n : ℕ). s || anyBelow n p) (sym (add-one h))
 
 -- the table with those that affect one operation more
 pub affecting-in : (p : ℕ → Bool) (y k : ℕ) (s r : Bool) → s ≡ (ltb k y && p k) → (k ≡ y → r ≡ p y) → (s || (r && eqb k y)) ≡ (ltb k (y + 1) && p k)

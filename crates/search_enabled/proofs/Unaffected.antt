@@ -1,5 +1,6 @@
 -- Whom an operation does not affect is enabled behind it as before.
-use Prim.Native.Nat.{ℕ, _<_}
+use Prim.Native.Nat.{ℕ, zero, suc, _<_}
+use native.Mathlib.Omega.{arith}
 use mathlib.Core.Path.{_≡_, refl, sym, ap, ap₂, _∙_}
 use mathlib.Core.Bool.{Bool, true, false, not, cond, _&&_, _||_, or-false, false≢true}
 use mathlib.Core.List.{List}
@@ -7,19 +8,26 @@ use lib.ListN.{getD}
 use lib.Seq.{getD-set-other}
 use lib.Dec.{eqb, ltb}
 use borrow.Author.Tests.{eq-eqb, ne-eqb, eqb-true, eqb-false}
+use Rattle.base.specs.Below.{allBelow}
 use Rattle.base.specs.Bits.{bit}
 use Rattle.base.proofs.Bools.{split, and-both}
-use Rattle.base.proofs.Tests.{all-same, any-passes, any-below-same}
+use Rattle.base.proofs.Tests.{all-same, any-passes, any-below-same, none-at}
 use Rattle.search_sets.specs.Set.{holds, setAt}
-use Rattle.search_admit.specs.Rows.{precedes, bypasses, writtenBits, writtenWord, readBits, readData, visibleWord, ownWord, localOf, wordsWith}
-use Rattle.search_admit.specs.Fits.{bothOrNeither, ready, pending, localBit, readsRecorded, enabled}
-use Rattle.search_admit.proofs.TestLaws.{reads-nothing}
-use Rattle.search_enabled.specs.Affects.{writesWordOf, localTo, affects, Affecting, enabledAfter}
+use Rattle.search_admit.specs.Rows.{precedes, bypasses, writtenWord, wordsWritten, readBits, readData, visibleWord, ownWord, wordsRead, localOf, writesBit, wordsUpTo, wordsWith}
+use Rattle.search_admit.specs.Fits.{bothOrNeither, ready, pending, localBit, wordRecorded, readsRecorded, enabled}
+use Rattle.search_enabled.specs.Affects.{writesWord, writesEither, writesWordOf, localTo, affects, Affecting, enabledAfter}
 
 -- what neither of two holds
 neither : (a b : Bool) → (a || b) ≡ false → (a ≡ false) × (b ≡ false)
 neither false b h = (refl, h)
 neither true b h = absurd (false≢true (sym h))
+
+-- a word that an operation does not write is as it was
+words-other : (rows words : List ℕ) (x v n : ℕ) → ((g : ℕ) → g < n → writtenWord rows g x ≡ v → ⊥) → getD (wordsUpTo rows words x n) v 0 ≡ getD words v 0
+unfolding wordsUpTo
+words-other rows words x v zero f = refl
+words-other rows words x v (suc n) f =
+    getD-set-other (wordsUpTo rows words x n) (writtenWord rows n x) v _ 0 (λ e. f n (omega arith) (sym e)) ∙ words-other rows words x v n (λ g l. f g (omega arith))
 
 module _ (rows : List ℕ) (x y lo hi lo' hi' : ℕ) (more : (k : ℕ) → holds lo' hi' k ≡ (holds lo hi k || eqb k x)) where
   -- another stands as before
@@ -45,40 +53,49 @@ module _ (rows : List ℕ) (x y lo hi lo' hi' : ℕ) (more : (k : ℕ) → holds
             (other m (λ e. false≢true (sym free ∙ ap (bypasses rows y) (sym e) ∙ t)))
             (other (localOf rows m) (λ e. false≢true (sym locals ∙ any-passes (λ k. bypasses rows y k && eqb (localOf rows k) x) 128 m l (and-both t (eq-eqb (localOf rows m) x e)))))
 
-    local-same : (i : ℕ) → localBit rows lo' hi' y i ≡ localBit rows lo hi y i
+    local-same : (h i : ℕ) → localBit rows lo' hi' h y i ≡ localBit rows lo hi h y i
     unfolding localBit
-    local-same i = any-below-same _ _ 128 (λ m l. ap (λ (b : Bool). b && bit (writtenBits rows m) i) (pending-same m l))
+    local-same h i = any-below-same _ _ 128 (λ m l. ap (λ (b : Bool). b && writesBit rows (visibleWord rows h y) m i) (pending-same m l))
 
     module _ (words : List ℕ) (elsewhere : writesWordOf rows x y ≡ false) where
-      visible-same : getD (wordsWith rows words x) (visibleWord rows y) 0 ≡ getD words (visibleWord rows y) 0
+      -- the words that y reads
+      unwritten : (h : ℕ) → h < wordsRead rows y → (writesWord rows x (visibleWord rows h y) ≡ false) × (writesWord rows x (ownWord rows h y) ≡ false)
       unfolding writesWordOf
-      visible-same =
-          getD-set-other words (writtenWord rows x) (visibleWord rows y) _ 0
-          (λ e. eqb-false (writtenWord rows x) (visibleWord rows y) (neither (eqb (writtenWord rows x) (visibleWord rows y)) (eqb (writtenWord rows x) (ownWord rows y)) elsewhere .0) (sym e))
+      unwritten h l =
+          neither _ _ (none-at (λ j. writesEither rows (visibleWord rows j y) (ownWord rows j y) x) (wordsRead rows y) elsewhere h l)
 
-      own-same : getD (wordsWith rows words x) (ownWord rows y) 0 ≡ getD words (ownWord rows y) 0
-      unfolding writesWordOf
-      own-same =
-          getD-set-other words (writtenWord rows x) (ownWord rows y) _ 0
-          (λ e. eqb-false (writtenWord rows x) (ownWord rows y) (neither (eqb (writtenWord rows x) (visibleWord rows y)) (eqb (writtenWord rows x) (ownWord rows y)) elsewhere .1) (sym e))
+      same : (v : ℕ) → writesWord rows x v ≡ false → getD (wordsWith rows words x) v 0 ≡ getD words v 0
+      unfolding writesWord
+      same v h = words-other rows words x v (wordsWritten rows x) (λ g l. eqb-false (writtenWord rows g x) v (none-at (λ j. eqb (writtenWord rows j x) v) (wordsWritten rows x) h g l))
+
+      word-same : (h : ℕ) → h < wordsRead rows y → wordRecorded rows lo' hi' (wordsWith rows words x) y h ≡ wordRecorded rows lo hi words y h
+      unfolding wordRecorded
+      word-same h k =
+          let (visible, own) = unwritten h k in
+          all-same _ _ 64 (λ i l.
+          ap₂ (λ (u v : ℕ). not (bit (readBits rows h y) i) || bothOrNeither (cond (localBit rows lo' hi' h y i) (bit u i) (bit v i)) (bit (readData rows h y) i)) (same (ownWord rows h y) own) (same (visibleWord rows h y) visible)
+          ∙ ap (λ (b : Bool). not (bit (readBits rows h y) i) || bothOrNeither (cond b (bit (getD words (ownWord rows h y) 0) i) (bit (getD words (visibleWord rows h y) 0) i)) (bit (readData rows h y) i)) (local-same h i))
 
       reads-same : readsRecorded rows lo' hi' (wordsWith rows words x) y ≡ readsRecorded rows lo hi words y
       unfolding readsRecorded
-      reads-same = all-same _ _ 64 (λ i l.
-          ap₂ (λ (u v : ℕ). not (bit (readBits rows y) i) || bothOrNeither (cond (localBit rows lo' hi' y i) (bit u i) (bit v i)) (bit (readData rows y) i)) own-same visible-same
-          ∙ ap (λ (b : Bool). not (bit (readBits rows y) i) || bothOrNeither (cond b (bit (getD words (ownWord rows y) 0) i) (bit (getD words (visibleWord rows y) 0) i)) (bit (readData rows y) i)) (local-same i))
+      reads-same = all-same _ _ (wordsRead rows y) word-same
+
+  -- nothing is read
+  reads-nothing : (ws : List ℕ) (l h : ℕ) → wordsRead rows y ≡ 0 → readsRecorded rows l h ws y ≡ true
+  unfolding readsRecorded allBelow
+  reads-nothing ws l h z = ap (λ (n : ℕ). allBelow n (wordRecorded rows l h ws y)) z
 
   -- x does not affect y
   pub unaffected : (words : List ℕ) → affects rows x y ≡ false → enabled rows lo' hi' (wordsWith rows words x) y ≡ enabled rows lo hi words y
   unfolding affects enabled
-  unaffected words h = ap₂ _&&_ (ready-same (parts .0)) (split (eqb (readBits rows y) 0)
-      (λ e. sym (reads-nothing rows (wordsWith rows words x) lo' hi' y (eqb-true (readBits rows y) 0 e)) ∙ reads-nothing rows words lo hi y (eqb-true (readBits rows y) 0 e))
+  unaffected words h = ap₂ _&&_ (ready-same (parts .0)) (split (eqb (wordsRead rows y) 0)
+      (λ e. reads-nothing (wordsWith rows words x) lo' hi' (eqb-true (wordsRead rows y) 0 e) ∙ sym (reads-nothing words lo hi (eqb-true (wordsRead rows y) 0 e)))
       (λ n. let (b, w) = neither _ _ (reads n) in let (b, l) = neither _ _ b in reads-same b l words w))
     where
-      parts : (precedes rows y x ≡ false) × ((not (eqb (readBits rows y) 0) && ((bypasses rows y x || localTo rows x y) || writesWordOf rows x y)) ≡ false)
+      parts : (precedes rows y x ≡ false) × ((not (eqb (wordsRead rows y) 0) && ((bypasses rows y x || localTo rows x y) || writesWordOf rows x y)) ≡ false)
       parts = neither _ _ h
 
-      reads : eqb (readBits rows y) 0 ≡ false → ((bypasses rows y x || localTo rows x y) || writesWordOf rows x y) ≡ false
+      reads : eqb (wordsRead rows y) 0 ≡ false → ((bypasses rows y x || localTo rows x y) || writesWordOf rows x y) ≡ false
       reads n = sym (ap (λ (b : Bool). not b && ((bypasses rows y x || localTo rows x y) || writesWordOf rows x y)) n) ∙ parts .1
 
 -- the enabled operations behind one entry more are those that the table gives

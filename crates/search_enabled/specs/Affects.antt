@@ -6,13 +6,21 @@ use mathlib.Core.List.{List}
 use lib.Dec.{eqb}
 use Rattle.base.specs.Below.{anyBelow}
 use Rattle.search_sets.specs.Set.{holds, setAt}
-use Rattle.search_admit.specs.Rows.{precedes, bypasses, writtenWord, readBits, visibleWord, ownWord, localOf}
+use Rattle.search_admit.specs.Rows.{precedes, bypasses, writtenWord, wordsWritten, visibleWord, ownWord, wordsRead, localOf}
 use Rattle.search_admit.specs.Fits.{enabled}
 
 module _ (rows : List ℕ) where
+  -- x writes word v of memory
+  unfoldable pub writesWord : ℕ → ℕ → Bool
+  writesWord x v = anyBelow (wordsWritten rows x) (λ g. eqb (writtenWord rows g x) v)
+
+  -- x writes one of two words
+  abbrev pub writesEither : ℕ → ℕ → ℕ → Bool
+  writesEither visible own x = writesWord x visible || writesWord x own
+
   -- x writes a word that the R y reads
   unfoldable pub writesWordOf : ℕ → ℕ → Bool
-  writesWordOf x y = eqb (writtenWord rows x) (visibleWord rows y) || eqb (writtenWord rows x) (ownWord rows y)
+  writesWordOf x y = anyBelow (wordsRead rows y) (λ h. writesEither (visibleWord rows h y) (ownWord rows h y) x)
 
   -- x is the LV of a store whose bytes the R y may read early
   unfoldable pub localTo : ℕ → ℕ → Bool
@@ -20,7 +28,7 @@ module _ (rows : List ℕ) where
 
   -- x may change whether y is enabled: it must stand before y, or has to do with what y reads
   unfoldable pub affects : ℕ → ℕ → Bool
-  affects x y = precedes rows y x || not (eqb (readBits rows y) 0) && ((bypasses rows y x || localTo x y) || writesWordOf x y)
+  affects x y = precedes rows y x || not (eqb (wordsRead rows y) 0) && ((bypasses rows y x || localTo x y) || writesWordOf x y)
 
 -- set x of the table has the operations that x affects, of n
 abbrev pub Affecting : ℕ → List ℕ → List ℕ → Type 0

@@ -6,25 +6,28 @@ ghost use lib.ListN.{length};
 ghost use lib.Dec.{eqb};
 ghost use Rattle.base.specs.Below.{anyBelow};
 ghost use Rattle.search_sets.specs.Set.{holds, setAt};
-ghost use Rattle.search_admit.specs.Rows.{localOf, firstWords};
+ghost use Rattle.search_admit.specs.Rows.{visibleWord, ownWord, localOf, firstWords};
 ghost use Rattle.search_admit.specs.Fits.{enabled, dueAfter};
-ghost use Rattle.search_enabled.specs.Affects.{writesWordOf, affects, Affecting, enabledAfter};
+ghost use Rattle.search_enabled.specs.Affects.{writesWord, writesEither, affects, Affecting, enabledAfter};
 use record_decoded::position::Position;
 use record_decoded::types::OperationNo;
+use relation_marks::table::either;
 use search_admit::BYPASSES;
 use search_admit::LOCAL;
-use search_admit::OWN_WORD;
 use search_admit::PARTNERS;
 use search_admit::PREDS;
-use search_admit::READ_BITS;
 use search_admit::TABLE;
 use search_admit::VISIBLE_WORD;
 use search_admit::WORDS;
+use search_admit::WRITTEN_BITS;
 use search_admit::WRITTEN_WORD;
 use search_admit::field_of;
 use search_admit::is_enabled;
 use search_admit::is_enabled_first;
+use search_admit::own_of;
 use search_admit::set_of;
+use search_admit::word_of;
+use search_admit::words_read;
 use search_sets::BOUND;
 use search_sets::Set;
 use search_sets::at;
@@ -55,27 +58,42 @@ fn with_locals(set: Set, rows: &[u64; TABLE], stores: Set) -> Set
     all
 }
 
-// Whether operation a writes a word that the R y reads.
-fn writes_word_of(rows: &[u64; TABLE], a: OperationNo, y: OperationNo) -> bool
-    requires { ⌜ (a .0 < 128) × (y .0 < 128) ⌝ }
-    ensures { λ r. ⌜ r ≡ writesWordOf (now (rows .entry)) (a .0) (y .0) ⌝ }
+// Whether operation a writes a word of memory.
+fn writes_word(rows: &[u64; TABLE], a: OperationNo, word: usize) -> bool
+    requires { ⌜ a .0 < 128 ⌝ }
+    ensures { λ r. ⌜ r ≡ writesWord (now (rows .entry)) (a .0) word ⌝ }
 {
-    let written = field_of(rows, a, WRITTEN_WORD) % WORDS as u64;
-    if written == field_of(rows, y, VISIBLE_WORD) % WORDS as u64 {
-        return true;
+    let first = word_of(rows, a, WRITTEN_WORD, 0) == word;
+    if field_of(rows, a, WRITTEN_BITS + 1) == 0 {
+        return first;
     }
-    written == field_of(rows, y, OWN_WORD) % WORDS as u64
+    either(first, word_of(rows, a, WRITTEN_WORD, 1) == word)
 }
 
-// A set, with the operations of n that write a word that the R y reads.
-fn with_writers(set: Set, n: usize, rows: &[u64; TABLE], y: OperationNo) -> Set
-    requires { ⌜ (n ≤ 128) × (y .0 < 128) ⌝ }
-    ensures { λ r. ⌜ ((a : ℕ) → a < n → holds (r .lo) (r .hi) a ≡ (holds (set .lo) (set .hi) a || writesWordOf (now (rows .entry)) a (y .0))) ⌝ }
+// A set, with the operations of n that write one of two words.
+fn with_writers(set: Set, n: usize, rows: &[u64; TABLE], visible: usize, own: usize) -> Set
+    requires { ⌜ n ≤ 128 ⌝ }
+    ensures { λ r. ⌜ ((a : ℕ) → a < n → holds (r .lo) (r .hi) a ≡ (holds (set .lo) (set .hi) a || writesEither (now (rows .entry)) visible own a)) ⌝ }
 {
     let mut all = set;
     for a in 0..n {
-        let writes = writes_word_of(rows, OperationNo(a), y);
+        let sees = writes_word(rows, OperationNo(a), visible);
+        let writes = either(sees, writes_word(rows, OperationNo(a), own));
         all = insert_if(all, a, writes);
+    }
+    all
+}
+
+// A set, with the operations of n that write one of the `count` words that the R y reads.
+fn with_all_writers(set: Set, n: usize, rows: &[u64; TABLE], y: OperationNo, count: usize) -> Set
+    requires { ⌜ (n ≤ 128) × (y .0 < 128) × (count ≤ 2) ⌝ }
+    ensures { λ r. ⌜ ((a : ℕ) → a < n → holds (r .lo) (r .hi) a ≡ (holds (set .lo) (set .hi) a || anyBelow count (λ (h : ℕ). writesEither (now (rows .entry)) (visibleWord (now (rows .entry)) h (y .0)) (ownWord (now (rows .entry)) h (y .0)) a))) ⌝ }
+{
+    let mut all = set;
+    for h in 0..count {
+        let visible = word_of(rows, y, VISIBLE_WORD, h);
+        let own = own_of(visible);
+        all = with_writers(all, n, rows, visible, own);
     }
     all
 }
@@ -86,12 +104,13 @@ fn all_affecting(n: usize, rows: &[u64; TABLE], y: OperationNo) -> Set
     ensures { λ r. ⌜ ((a : ℕ) → a < n → holds (r .lo) (r .hi) a ≡ affects (now (rows .entry)) a (y .0)) ⌝ }
 {
     let preds = set_of(rows, y, PREDS);
-    if field_of(rows, y, READ_BITS) == 0 {
+    let count = words_read(rows, y);
+    if count == 0 {
         return preds;
     }
     let stores = set_of(rows, y, BYPASSES);
     let read = with_locals(stores, rows, stores);
-    union(preds, with_writers(read, n, rows, y))
+    union(preds, with_all_writers(read, n, rows, y, count))
 }
 
 // Puts y into the sets of those that affect it.

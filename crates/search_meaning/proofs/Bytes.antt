@@ -11,7 +11,7 @@ use Rattle.base.specs.Bits.{bit}
 use Rattle.search_sets.proofs.Bit.{differ-cancel, has-xor}
 use Rattle.search_sets.proofs.Laws.{same-bits}
 use Rattle.model.specs.Execution as model
-use Rattle.model.specs.Execution.{Kind, isLoad, isStore, isSemaphore, Instruction, initialByte}
+use Rattle.model.specs.Execution.{isLoad, isStore, Instruction, initialByte}
 use Rattle.model.specs.Questions.{initialPlace, seenOf, writtenFrom, wroteOf}
 use Rattle.model.specs.Rules.{accesses, byteSeen, byteWritten}
 use Rattle.model.specs.Accepted.{Accepted, Sound}
@@ -21,14 +21,6 @@ use Rattle.record_decoded.specs.Decoded.{dataOf, initialOf, instructionAt, exec
 use Rattle.record_decoded.proofs.InitialBytes.{initial-is}
 use Rattle.search_admit.specs.Rows.{covers, relative, dataBit, Bytes}
 use Rattle.model.proofs.Ownership.{each-in}
-
--- a place that the bytes written may begin at
-written-few : (k : Kind) → writtenFrom k ≤ 8
-written-few k = go (isSemaphore k)
-  where
-    go : (b : Bool) → cond b 8 0 ≤ 8
-    go true = omega arith
-    go false = omega arith
 
 -- bytes with the same eight bits are equal
 pub same-byte : (a b : ℕ) → a < 256 → b < 256 → ((k : ℕ) → k < 8 → bit a k ≡ bit b k) → a ≡ b
@@ -48,13 +40,13 @@ module _ (bytes : List ℕ) (x : Execution) (accepted : Accepted (executionOf by
   pub accesses-within : (w a : ℕ) → List·Memᴰ (instruction w) (e .instructions) → accesses (instruction w) a ≡ true → Within (length (e .lines)) (instruction w) a
   accesses-within w a m h = within (each-in (Sound (e .processors) (length (e .lines))) (accepted .sound) m) a h
 
-  -- bit i of the line of an address
-  pub covers-is : (w a i : ℕ) → a / 8 ≡ instruction w .address / 8 → i / 8 ≡ a % 8 → covers x w i ≡ accesses (instruction w) a
+  -- bit i of the line of an address, which is h lines behind the first
+  pub covers-is : (w a h i : ℕ) → a / 8 ≡ instruction w .address / 8 + h → i / 8 ≡ a % 8 → covers x w (64 * h + i) ≡ accesses (instruction w) a
   unfolding covers instructionAt
-  covers-is w a i line at = ap (accesses (instruction w)) (omega arith)
+  covers-is w a h i line at = ap (accesses (instruction w)) (omega arith)
 
   -- the byte of an address among an instruction's data from a place on
-  byte-at : (w a from : ℕ) → Within (length (e .lines)) (instruction w) a → from ≤ 8
+  byte-at : (w a from : ℕ) → Within (length (e .lines)) (instruction w) a → from + instruction w .size ≤ 16
       → getD (take (instruction w .size) (drop from (dataOf (x .instructions .bytes) w))) (a - instruction w .address) 0
       ≡ getD (x .instructions .bytes) (16 * w + from + (a - instruction w .address)) 0
   unfolding dataOf
@@ -63,7 +55,7 @@ module _ (bytes : List ℕ) (x : Execution) (accepted : Accepted (executionOf by
       let place : 16 * w + (from + j) ≡ 16 * w + from + j = omega arith in
       getD-take (instruction w .size) (drop from (take 16 (drop (16 * w) (x .instructions .bytes)))) j 0 (omega (arith, h .from, h .to))
       ∙ getD-drop from (take 16 (drop (16 * w) (x .instructions .bytes))) j 0
-      ∙ getD-take 16 (drop (16 * w) (x .instructions .bytes)) (from + j) 0 (omega (arith, h .from, h .to, h .few))
+      ∙ getD-take 16 (drop (16 * w) (x .instructions .bytes)) (from + j) 0 (omega (arith, h .from, h .to))
       ∙ getD-drop (16 * w) (x .instructions .bytes) (from + j) 0
       ∙ ap (λ (n : ℕ). getD (x .instructions .bytes) n 0) place
 
@@ -72,33 +64,33 @@ module _ (bytes : List ℕ) (x : Execution) (accepted : Accepted (executionOf by
       → byteSeen (instruction w) a ≡ getD (x .instructions .bytes) (16 * w + 0 + (a - instruction w .address)) 0
   unfolding instructionAt seenOf
   seen-at w a h loads =
-      ap (λ (u : Bool). getD (cond u (take (instruction w .size) (dataOf (x .instructions .bytes) w)) []) (a - instruction w .address) 0) loads ∙ byte-at w a 0 h (omega arith)
+      ap (λ (u : Bool). getD (cond u (take (instruction w .size) (dataOf (x .instructions .bytes) w)) []) (a - instruction w .address) 0) loads ∙ byte-at w a 0 h (omega (arith, h .fits .few))
 
   wrote-at : (w a : ℕ) → Within (length (e .lines)) (instruction w) a → isStore (instruction w .kind) ≡ true
       → byteWritten (instruction w) a ≡ getD (x .instructions .bytes) (16 * w + writtenFrom (instruction w .kind) + (a - instruction w .address)) 0
   unfolding instructionAt wroteOf
   wrote-at w a h writes =
       ap (λ (u : Bool). getD (cond u (take (instruction w .size) (drop (writtenFrom (instruction w .kind)) (dataOf (x .instructions .bytes) w))) []) (a - instruction w .address) 0) writes
-      ∙ byte-at w a (writtenFrom (instruction w .kind)) h (written-few (instruction w .kind))
+      ∙ byte-at w a (writtenFrom (instruction w .kind)) h (h .fits .few)
 
-  data-is : (w a i k from v : ℕ) → v ≡ getD (x .instructions .bytes) (16 * w + from + (a - instruction w .address)) 0
-      → Within (length (e .lines)) (instruction w) a → accesses (instruction w) a ≡ true → i / 8 ≡ a % 8 → i % 8 ≡ k
-      → dataBit bytes x w from i ≡ bit (relative v (initialByte e a)) k
+  data-is : (w a g i k from v : ℕ) → v ≡ getD (x .instructions .bytes) (16 * w + from + (a - instruction w .address)) 0
+      → Within (length (e .lines)) (instruction w) a → accesses (instruction w) a ≡ true → a / 8 ≡ instruction w .address / 8 + g → i / 8 ≡ a % 8 → i % 8 ≡ k
+      → dataBit bytes x w from (64 * g + i) ≡ bit (relative v (initialByte e a)) k
   unfolding dataBit instructionAt
-  data-is w a i k from v is h there at bits =
-      ap (λ (b : Bool). b && bit (relative (getD (x .instructions .bytes) (16 * w + from + (i / 8 - instruction w .address % 8)) 0) (initialOf bytes (x .lines .count) (8 * (instruction w .address / 8) + i / 8))) (i % 8))
-      (covers-is w a i (h .one-line) at ∙ there)
-      ∙ ap₂ (λ (j m : ℕ). bit (relative (getD (x .instructions .bytes) (16 * w + from + j) 0) (initialOf bytes (x .lines .count) (8 * (instruction w .address / 8) + i / 8))) m) (omega (arith, h .one-line, h .from)) bits
-      ∙ ap₂ (λ (b c : ℕ). bit (relative b c) k) (sym is) (ap (initialOf bytes (x .lines .count)) (omega (arith, h .one-line)) ∙ sym (initial-is bytes x a))
+  data-is w a g i k from v is h there line at bits =
+      ap (λ (b : Bool). b && bit (relative (getD (x .instructions .bytes) (16 * w + from + ((64 * g + i) / 8 - instruction w .address % 8)) 0) (initialOf bytes (x .lines .count) (8 * (instruction w .address / 8) + (64 * g + i) / 8))) ((64 * g + i) % 8))
+      (covers-is w a g i line at ∙ there)
+      ∙ ap₂ (λ (j m : ℕ). bit (relative (getD (x .instructions .bytes) (16 * w + from + j) 0) (initialOf bytes (x .lines .count) (8 * (instruction w .address / 8) + (64 * g + i) / 8))) m) (omega (arith, line, h .from)) (let z : (64 * g + i) % 8 ≡ k = omega arith in z)
+      ∙ ap₂ (λ (b c : ℕ). bit (relative b c) k) (sym is) (ap (initialOf bytes (x .lines .count)) (omega (arith, line)) ∙ sym (initial-is bytes x a))
 
   -- a bit of it, in the line
-  module _ (w a i k : ℕ) (h : Within (length (e .lines)) (instruction w) a) (there : accesses (instruction w) a ≡ true) (at : i / 8 ≡ a % 8) (bits : i % 8 ≡ k) where
-    pub seen-bit-is : isLoad (instruction w .kind) ≡ true → dataBit bytes x w 0 i ≡ bit (relative (byteSeen (instruction w) a) (initialByte e a)) k
-    seen-bit-is loads = data-is w a i k 0 (byteSeen (instruction w) a) (seen-at w a h loads) h there at bits
+  module _ (w a g i k : ℕ) (h : Within (length (e .lines)) (instruction w) a) (there : accesses (instruction w) a ≡ true) (line : a / 8 ≡ instruction w .address / 8 + g) (at : i / 8 ≡ a % 8) (bits : i % 8 ≡ k) where
+    pub seen-bit-is : isLoad (instruction w .kind) ≡ true → dataBit bytes x w 0 (64 * g + i) ≡ bit (relative (byteSeen (instruction w) a) (initialByte e a)) k
+    seen-bit-is loads = data-is w a g i k 0 (byteSeen (instruction w) a) (seen-at w a h loads) h there line at bits
 
     pub wrote-bit-is : isStore (instruction w .kind) ≡ true
-        → dataBit bytes x w (writtenFrom (instruction w .kind)) i ≡ bit (relative (byteWritten (instruction w) a) (initialByte e a)) k
-    wrote-bit-is writes = data-is w a i k (writtenFrom (instruction w .kind)) (byteWritten (instruction w) a) (wrote-at w a h writes) h there at bits
+        → dataBit bytes x w (writtenFrom (instruction w .kind)) (64 * g + i) ≡ bit (relative (byteWritten (instruction w) a) (initialByte e a)) k
+    wrote-bit-is writes = data-is w a g i k (writtenFrom (instruction w .kind)) (byteWritten (instruction w) a) (wrote-at w a h writes) h there line at bits
 
   pub seen-small : Bytes (x .instructions .bytes) → (w a : ℕ) → Within (length (e .lines)) (instruction w) a → isLoad (instruction w .kind) ≡ true → byteSeen (instruction w) a < 256
   seen-small small w a h loads = subst (λ (b : ℕ). b < 256) (sym (seen-at w a h loads)) (small (16 * w + 0 + (a - instruction w .address)))

@@ -20,8 +20,8 @@ use Rattle.model.specs.Rules.{before, addresses, accesses, overlap, inUC, confl
 use Rattle.model.specs.Accepted.{Accepted}
 use Rattle.model.proofs.Roles.{R-role, RV-role, RV-few}
 use Rattle.model.proofs.Before.{before-absent}
-use Rattle.model.proofs.Accesses.{of-reach}
-use Rattle.model.proofs.Uninterrupted.{semaphore-WB, one-line}
+use Rattle.model.proofs.Accesses.{of-reach, overlap-any}
+use Rattle.model.proofs.Uninterrupted.{semaphore-WB, same-memory}
 use Rattle.record_decoded.specs.Kinds.{roleNumbered}
 use Rattle.record_decoded.specs.Decoded.{instructionAt, executionOf}
 use Rattle.record_decoded.proofs.RoleNumbers.{number-R, number-RV, role-R, role-RV}
@@ -251,12 +251,12 @@ module _ {t : Tables} (h : TablesMean t) (accepted : Accepted (executionOf (t .b
 
   -- a semaphore and another overlapping store are both to WB
   semaphore-conflict : {s w : Instruction} → List·Memᴰ s (semaphores e) → List·Memᴰ w (stores e) → another s w ≡ true → conflict e s w ≡ true
-  unfolding overlap conflict
+  unfolding conflict
   semaphore-conflict {s} {w} ms mw c =
       let (other, shared) = and-parts (not (eqb (s .number) (w .number))) (overlap s w) c in
-      let (b, mb, there) = any-witness (accesses w) (addresses s) shared in
+      let (b, mb, there) = any-witness (accesses w) (addresses s) (sym (overlap-any s w) ∙ shared) in
       let wb = semaphore-WB e accepted ms in
-      and-both c (rw (wb, sym (one-line e accepted (is-semaphore e ms .0) (is-store e mw .0) b (of-reach s b mb) there) ∙ wb))
+      and-both c (rw (wb, sym (same-memory e accepted (is-semaphore e ms .0) (is-store e mw .0) b (of-reach s b mb) there) ∙ wb))
 
   semaphore-refused : any (lost e x xs) (semaphoreDemands e x) ≡ true → is-refused ≡ true
   unfolding semaphoreDemands

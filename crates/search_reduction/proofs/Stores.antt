@@ -1,16 +1,17 @@
 -- Rules 9 and 10, stores in conflict: what one operation more newly breaks is a lost demand.
-use Prim.Native.Nat.{ℕ, _+_, _<_}
+use Prim.Native.Nat.{ℕ, _<_}
 use mathlib.Core.Path.{_≡_, refl, sym, _∙_}
 use mathlib.Core.Bool.{Bool, true, false, not, _&&_, _||_, and-false, false≢true}
 use mathlib.Core.List.{List, [], _∷_, map, List·Memᴰ, List·Memᴰ·head, List·Memᴰ·tail}
-use lib.Dec.{eqb, leb, ltb}
-use borrow.Author.Tests.{eqb-true, eqb-false, ne-eqb, not-true, leb-true, ltb-true, le-leb, lt-ltb}
+use lib.Dec.{eqb}
+use borrow.Author.Tests.{eqb-true, eqb-false, ne-eqb, not-true}
 use Rattle.base.specs.Lists.{any, when, for, member}
 use Rattle.base.proofs.Bools.{split, clash, agree, and-parts, and-both, eqb-swap}
-use Rattle.base.proofs.Lists.{any-for, any-map, any-one, any-witness, any-member, any-fails, in-count, of-count}
+use Rattle.base.proofs.Lists.{any-for, any-map, any-one, any-witness, any-member, any-fails}
 use Rattle.model.specs.Execution.{Execution, Instruction, LV, RV, numberOf, stores, everyProcessor}
 use Rattle.model.specs.Rules.{before, addresses, accesses, overlap, inWB, inUC, Claim, _≺_, _⇒_, RV-own, conflict, forConflicts, rule9, rule10, rules, broken, consistent}
 use Rattle.model.specs.Accepted.{Accepted}
+use Rattle.model.proofs.Accesses.{of-reach, one-byte, overlap-any}
 use Rattle.model.proofs.Before.{before-absent, before-stands, before-past, before-from, before-other}
 use Rattle.model.proofs.Consistent.{kept}
 use Rattle.search_reduction.specs.Admits.{Demand, missing, lost, ownDemands, remoteDemands}
@@ -22,14 +23,7 @@ use Rattle.search_reduction.proofs.Links.{LV-first, own-first}
 -- Conflicts
 
 overlap-swap : (v w : Instruction) → overlap v w ≡ true → overlap w v ≡ true
-unfolding overlap addresses accesses
-overlap-swap v w h =
-    let (a, ma, t) = any-witness (λ a. leb (w .address) a && ltb a (w .address + w .size)) (addresses v) h in
-    let (t1, t2) = and-parts (leb (w .address) a) (ltb a (w .address + w .size)) t in
-    let (k1, k2) = of-count (v .address) (v .size) ma in
-    any-member (λ a. leb (v .address) a && ltb a (v .address + v .size))
-    (in-count (w .address) (w .size) a (leb-true (w .address) a t1) (ltb-true a (w .address + w .size) t2))
-    (and-both (le-leb (v .address) a k1) (lt-ltb a (v .address + v .size) k2))
+overlap-swap v w h = let (a, ma, t) = any-witness (accesses w) (addresses v) (sym (overlap-any v w) ∙ h) in one-byte w v a t (of-reach v a ma)
 
 -- two stores in conflict
 record Conflicting (e : Execution) (v w : Instruction) : Type 0 where

@@ -3,10 +3,10 @@ use Prim.Native.Nat.{ℕ, suc, _+_, _*_, _≤_, _<_}
 use native.Mathlib.Omega.{arith}
 use native.Mathlib.Numerals.{add-one}
 use mathlib.Core.Path.{_≡_, refl, sym, ap, ap₂, _∙_, subst}
-use mathlib.Core.Bool.{Bool, true, false, not, _&&_, and-false}
-use mathlib.Core.List.{List, [], _∷_, _++_}
-use lib.ListN.{length, getD, set, take, drop, replicate, length-set, length-replicate, take-append-drop}
-use lib.Seq.{set-getD, take-suc, take-take}
+use mathlib.Core.Bool.{Bool, true, false, not, cond, _&&_, and-false}
+use mathlib.Core.List.{List, [], _∷_, _++_, append-nil}
+use lib.ListN.{length, getD, set, take, drop, replicate, length-set, length-replicate, take-append-drop, drop-of-length-le}
+use lib.Seq.{paste, set-getD, take-suc, take-take, take-all}
 use borrow.Author.Tests.{not-true, not-false}
 use Rattle.base.specs.Lists.{member, distinct}
 use Rattle.base.proofs.Bools.{clash, is-false}
@@ -15,7 +15,8 @@ use Rattle.relation_places.proofs.PlaceLaws.{placing-none, placed-none}
 use Rattle.search_sets.specs.Set.{holds}
 use Rattle.search_sets.proofs.Members.{holds-none}
 use Rattle.search_sets.proofs.Tables.{putAt, put-here, put-word, put-other, put-length}
-use Rattle.search_admit.specs.Rows.{writtenWord, wordsWith, wordsFrom, wordsAfter, firstWords}
+use Rattle.search_admit.proofs.WordLaws.{words-length}
+use Rattle.search_admit.specs.Rows.{wordsWith, replacedWith, wordsFrom, wordsAfter, firstWords}
 use Rattle.search_admit.specs.Fits.{dueOf, refused, enabled, Standing, Tested}
 use Rattle.search_admit.proofs.FitLaws.{due-first}
 use Rattle.search_enabled.specs.Affects.{Affecting}
@@ -24,6 +25,15 @@ use Rattle.search_walk.proofs.Gaps.{closed-front}
 use Rattle.search_walk.proofs.Levels.{placed-more, remembered-more, levels-more}
 use Rattle.search_walk.proofs.Search.{open-tells}
 use Rattle.search_resume.specs.Replays.{Replayed}
+
+-- all entries copied
+pub pasted-whole : (d s : List ℕ) → length s ≡ 128 → length d ≡ 128 → paste d 0 (drop 0 s) 128 ≡ s
+pasted-whole d s long room = ap₂ _++_ (take-all 128 s (omega arith)) (drop-of-length-le d {i = 128} (omega arith)) ∙ append-nil s
+
+-- either of two is as long
+pub either-long : (b : Bool) (l m : List ℕ) → length l ≡ 128 → length m ≡ 128 → length (cond b l m) ≡ 128
+either-long true l m h k = h
+either-long false l m h k = k
 
 -- the sets before any operation
 module _ {n : ℕ} (rows : List ℕ) (few : n ≤ 128) (lo hi : ℕ) (able : (a : ℕ) → a < n → holds lo hi a ≡ enabled rows 0 0 firstWords a) where
@@ -73,7 +83,7 @@ unfolding wordsFrom
 kept-none {n} {rows} {entries} few w h = record {
   placed = placing-none {xs = entries} few refl placed-none .so-far;
   levelled = h;
-  remembered = record { now-are = w; were = λ j h. absurd (omega arith) };
+  remembered = record { now-are = w; were = λ j h l. absurd (omega arith) };
 }
 
 -- The invariant: the first j entries pass, and all is kept of them.
@@ -170,9 +180,9 @@ module _ {n : ℕ} {rows : List ℕ} {size : ℕ} {given entries places levels w
           same = d ∙ ap₂ (λ (xs : List ℕ) (o : ℕ). set xs j o) (inv .same) x-is ∙ set-getD given j 0;
           whole = inv .whole;
           long = length-set places x j ∙ inv .long;
-          wide = length-set words (writtenWord rows x) _ ∙ inv .wide;
+          wide = words-length rows words x ∙ inv .wide;
           different = inv .different;
-          kept = subst (λ (xs : List ℕ). Kept n rows xs (set places x j) levels' (wordsWith rows words x) (set replaced j (getD words (writtenWord rows x) 0)) (j + 1))
+          kept = subst (λ (xs : List ℕ). Kept n rows xs (set places x j) levels' (wordsWith rows words x) (replacedWith rows words replaced j x) (j + 1))
               (ap (set given j) x-is ∙ set-getD given j 0)
               (record {
                 placed = placed-more given j x inside n places (inv .long) (inv .kept .placed) entry-low new;

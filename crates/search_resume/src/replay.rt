@@ -11,6 +11,7 @@ ghost use Rattle.search_resume.specs.Replays.{Replayed};
 use record_decoded::position::Position;
 use record_decoded::types::OperationNo;
 use record_decoded::types::wide;
+use search_admit::REPLACED;
 use search_admit::TABLE;
 use search_admit::WORDS;
 use search_enabled::AFFECTED;
@@ -44,7 +45,7 @@ pub fn replay(
     places: &mut [u8; Position::LIMIT],
     levels: &mut [u64; LEVELS],
     words: &mut [u64; WORDS],
-    replaced: &mut [u64; Position::LIMIT],
+    replaced: &mut [u64; REPLACED],
     rows: &[u64; TABLE],
     affected: &[u64; AFFECTED],
 ) -> bool

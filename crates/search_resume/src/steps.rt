@@ -1,6 +1,6 @@
 // The search from a position: one walk a step, and one more to see whether anything is left.
 ghost use mathlib.Core.Path.{_≡_};
-ghost use mathlib.Core.Bool.{true};
+ghost use mathlib.Core.Bool.{true, cond};
 ghost use mathlib.Core.List.{[]};
 ghost use Prim.Native.Nat.{_<_, _≤_};
 ghost use lib.ListN as ListN;
@@ -12,7 +12,9 @@ ghost use Rattle.search_resume.specs.Outcomes.{SearchedFrom, StepsMade};
 use crate::replay::first_level;
 use crate::replay::replay;
 use record_decoded::position::Position;
+use record_decoded::types::copy_bytes;
 use relation_places::ABSENT;
+use search_admit::REPLACED;
 use search_admit::TABLE;
 use search_admit::WORDS;
 use search_enabled::AFFECTED;
@@ -46,14 +48,24 @@ fn without_step(consistent: bool, verdict: Verdict, given: Position) -> Outcome
     }
 }
 
-// The steps from a consistent position that is not full.
+// The entries of a position, kept in `reached` if these are the last.
+fn keep_if(last: bool, entries: &[u8], reached: &mut [u8])
+    requires { ⌜ (ListN.length (now entries) ≡ 128) × (ListN.length (now reached) ≡ 128) ⌝ }
+    ensures { λ _. ⌜ now (reached .exit) ≡ cond last (now (entries .entry)) (now (reached .entry)) ⌝ }
+{
+    if last {
+        copy_bytes(reached, 0, entries, 0, Position::LIMIT);
+    }
+}
+
+// The steps from a consistent position that is not full. The walk has one place here, where it is put in whole.
 fn make_steps(
     n: usize,
     given: Position,
     placed: [u8; Position::LIMIT],
     sets: [u64; LEVELS],
     wrote: [u64; WORDS],
-    over: [u64; Position::LIMIT],
+    over: [u64; REPLACED],
     allowance: u32,
     rows: &[u64; TABLE],
     affected: &[u64; AFFECTED],
@@ -67,9 +79,13 @@ fn make_steps(
     let mut levels = sets;
     let mut words = wrote;
     let mut replaced = over;
+    let mut reached = given.entries;
     let mut length = given.length;
     let mut steps: u32 = 0;
-    while steps < allowance {
+    loop {
+        // The walk behind the last step only sees whether anything is left.
+        let last = steps == allowance;
+        keep_if(last, &entries, &mut reached);
         let next = walk(
             n,
             &mut entries,
@@ -91,6 +107,17 @@ fn make_steps(
                 };
             }
             WalkAnswer::Next(size) => {
+                if last {
+                    return Outcome {
+                        consistent: true,
+                        verdict: Verdict::Unfinished,
+                        steps,
+                        position: Position {
+                            length,
+                            entries: reached,
+                        },
+                    };
+                }
                 steps += 1;
                 length = size;
             }
@@ -103,35 +130,6 @@ fn make_steps(
                 position: Position { length, entries },
             };
         }
-    }
-    let reached = entries;
-    let last = walk(
-        n,
-        &mut entries,
-        length,
-        &mut places,
-        &mut levels,
-        &mut words,
-        &mut replaced,
-        rows,
-        affected,
-    );
-    match last {
-        WalkAnswer::End => Outcome {
-            consistent: true,
-            verdict: Verdict::Forbidden,
-            steps,
-            position: given,
-        },
-        WalkAnswer::Next(_) => Outcome {
-            consistent: true,
-            verdict: Verdict::Unfinished,
-            steps,
-            position: Position {
-                length,
-                entries: reached,
-            },
-        },
     }
 }
 
@@ -151,7 +149,7 @@ pub fn search_from(
     let mut places = [ABSENT; Position::LIMIT];
     let mut words = [0u64; WORDS];
     let mut levels = first_level(n, rows);
-    let mut replaced = [0u64; Position::LIMIT];
+    let mut replaced = [0u64; REPLACED];
     let consistent = replay(
         n,
         &mut entries,

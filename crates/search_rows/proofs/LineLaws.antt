@@ -2,7 +2,7 @@
 use Prim.Native.Nat.{ℕ, suc, _+_, _*_, _-_, _/_, _%_, _^_, _≤_, _<_}
 use native.Mathlib.Omega.{arith}
 use mathlib.Core.Path.{_≡_, refl, sym, ap, ap₂, _∙_, subst}
-use mathlib.Core.Bool.{Bool, true, false, _&&_, _||_, or-false}
+use mathlib.Core.Bool.{Bool, true, false, cond, _&&_, _||_, or-false}
 use mathlib.Core.List.{List}
 use mathlib.Core.Logic.{⊎-elim}
 use native.Mathlib.Nat.{mul-assoc}
@@ -13,13 +13,15 @@ use lib.Dec.{eqb, leb, ltb}
 use borrow.Author.Tests.{ne-eqb, eqb-true, eqb-false, le-leb, leb-true, lt-ltb, le-ltb, ltb-true}
 use Rattle.base.specs.Below.{allBelow}
 use Rattle.base.specs.Bits.{bit}
-use Rattle.base.proofs.Bools.{agree, split}
+use Rattle.base.proofs.Bools.{agree, split, and-parts, and-both}
 use Rattle.base.proofs.Tests.{all-at}
+use Rattle.model.specs.Execution.{Kind, isSemaphore}
+use Rattle.model.specs.Questions.{writtenFrom}
 use Rattle.model.specs.Rules.{accesses}
 use Rattle.record_decoded.specs.declared.types.Execution.{Execution}
 use Rattle.record_decoded.specs.Decoded.{initialOf, instructionAt}
 use Rattle.search_admit.specs.Rows.{covers, relative, dataBit}
-use Rattle.search_rows.specs.Lent.{relativeBit}
+use Rattle.search_rows.specs.Lent.{coveredBit, relativeBit, InWord}
 use Rattle.search_sets.proofs.Bit.{has-or}
 use Rattle.search_sets.proofs.Laws.{lt-or-le, has-above, zero-has}
 
@@ -105,6 +107,68 @@ pub known-all : (bytes : List ℕ) (j : ℕ) → ((i : ℕ) → i < j → getD b
 known-all bytes j known h i =
     ⊎-elim (λ (l : i < j). known i l) (λ (l : j ≤ i). subst (λ (b : ℕ). b < 256) (sym (List·getD-eq-default bytes 0 (let z : length bytes ≤ i = omega arith in z))) (omega arith)) (lt-or-le i j)
 
+-- where the bytes written may begin
+pub written-few : (k : Kind) → writtenFrom k ≤ 8
+written-few k = go (isSemaphore k)
+  where
+    go : (b : Bool) → cond b 8 0 ≤ 8
+    go true = omega arith
+    go false = omega arith
+
+-- bytes from one place on, and from another
+between-same : (a b j c d k : ℕ) → (a ≤ j → j < b → (c ≤ k) × (k < d)) → (c ≤ k → k < d → (a ≤ j) × (j < b)) → (leb a j && ltb j b) ≡ (leb c k && ltb k d)
+between-same a b j c d k to from =
+    agree (leb a j && ltb j b) (leb c k && ltb k d)
+    (λ t. let (l, r) = and-parts (leb a j) (ltb j b) t in let (u, v) = to (leb-true a j l) (ltb-true j b r) in and-both (le-leb c k u) (lt-ltb k d v))
+    (λ t. let (l, r) = and-parts (leb c k) (ltb k d) t in let (u, v) = from (leb-true c k l) (ltb-true k d r) in and-both (le-leb a j u) (lt-ltb j b v))
+
+-- the bytes that lie in one of two words
+module _ (place size h : ℕ) (low : place < 8) (fits : place + size ≤ 16) (few : h < 2) {first left count : ℕ} (first-is : first ≡ place - 8 * h) (left-is : left ≡ place + size - 8 * h) where
+  pub span-part : left < 8 → count ≡ left - first → InWord place size h first count
+  span-part short is = record {
+    low = omega arith;
+    within = omega arith;
+    onward = omega arith;
+    data-within = λ from l m. omega arith;
+    same = λ k l. between-same first (first + count) k place (place + size) (8 * h + k) (λ u v. (omega arith, omega arith)) (λ u v. (omega arith, omega arith));
+  }
+
+  pub span-all : 8 ≤ left → count ≡ 8 - first → InWord place size h first count
+  span-all full is = record {
+    low = omega arith;
+    within = omega arith;
+    onward = omega arith;
+    data-within = λ from l m. omega arith;
+    same = λ k l. between-same first (first + count) k place (place + size) (8 * h + k) (λ u v. (omega arith, omega arith)) (λ u v. (omega arith, omega arith));
+  }
+
+-- the bits of these bytes in the word, and what they are
+module _ (address size h : ℕ) {first n : ℕ} (inside : InWord (address % 8) size h first n) (i : ℕ) (low : i < 64) where
+  pub covered-part : (leb first (i / 8) && ltb (i / 8) (first + n)) ≡ coveredBit address size (64 * h + i)
+  covered-part =
+      inside .same (i / 8) (omega arith)
+      ∙ ap (λ (k : ℕ). leb (address % 8) k && ltb k (address % 8 + size)) (let z : 8 * h + i / 8 ≡ (64 * h + i) / 8 = omega arith in z)
+
+  abbrev skipped : ℕ
+  skipped = 8 * h + first - address % 8
+
+  and-same : (b : Bool) {c v w : Bool} → b ≡ c → (b ≡ true → v ≡ w) → (b && v) ≡ (c && w)
+  and-same true {c} {v} {w} e f = f refl ∙ ap (λ (u : Bool). u && w) e
+  and-same false {c} {v} {w} e f = ap (λ (u : Bool). u && w) e
+
+  pub relative-part : (bytes : List ℕ) (count : ℕ) (values : List ℕ) (at : ℕ)
+      → relativeBit bytes count values (at + skipped) (address + skipped) n i ≡ relativeBit bytes count values at address size (64 * h + i)
+  relative-part bytes count values at =
+      let place : (address + skipped) % 8 ≡ first = omega (arith, inside .low, inside .onward) in
+      let line : 8 * ((address + skipped) / 8) + i / 8 ≡ 8 * (address / 8) + (64 * h + i) / 8 = omega (arith, inside .low, inside .onward) in
+      let same-bit : i % 8 ≡ (64 * h + i) % 8 = omega arith in
+      and-same (coveredBit (address + skipped) n i) (ap (λ (k : ℕ). leb k (i / 8) && ltb (i / 8) (k + n)) place ∙ covered-part)
+      (λ t.
+      let here : first ≤ i / 8 = leb-true first (i / 8) (and-parts (leb first (i / 8)) (ltb (i / 8) (first + n)) (sym (ap (λ (k : ℕ). leb k (i / 8) && ltb (i / 8) (k + n)) place) ∙ t) .0) in
+      let index : at + skipped + (i / 8 - (address + skipped) % 8) ≡ at + ((64 * h + i) / 8 - address % 8) = omega (arith, inside .low, inside .onward) in
+      ap₂ (λ (m a : ℕ). bit (relative (getD values m 0) (initialOf bytes count a)) (i % 8)) index line
+      ∙ ap (bit (relative (getD values (at + ((64 * h + i) / 8 - address % 8)) 0) (initialOf bytes count (8 * (address / 8) + (64 * h + i) / 8)))) same-bit)
+
 -- the bits of an instruction, by its place in the line
 module _ (x : Execution) (w : ℕ) {address size : ℕ} (is-address : address ≡ getD (x .instructions .addresses) w 0) (is-size : size ≡ getD (x .instructions .sizes) w 0) where
   abbrev first : ℕ
@@ -113,7 +177,7 @@ module _ (x : Execution) (w : ℕ) {address size : ℕ} (is-address : address �
   abbrev extent : ℕ
   extent = getD (x .instructions .sizes) w 0
 
-  pub covers-by : (i : ℕ) → (leb (address % 8) (i / 8) && ltb (i / 8) (address % 8 + size)) ≡ covers x w i
+  pub covers-by : (i : ℕ) → coveredBit address size i ≡ covers x w i
   unfolding covers accesses instructionAt
   covers-by i =
       ap₂ (λ (a s : ℕ). leb (a % 8) (i / 8) && ltb (i / 8) (a % 8 + s)) is-address is-size

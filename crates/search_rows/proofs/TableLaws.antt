@@ -36,39 +36,38 @@ put-more {before} {row} {at} {j} {after} inv room = record {
     elsewhere i (inl l) e = omega arith
     elsewhere i (inr l) e = omega arith
 
-pub put-done : {before row : List ℕ} {at j : ℕ} {after : List ℕ} → Put before row at j after → j ≡ 18 → Put before row at 18 after
+pub put-done : {before row : List ℕ} {at j : ℕ} {after : List ℕ} → Put before row at j after → j ≡ 21 → Put before row at 21 after
 put-done {before} {row} {at} {j} {after} inv e = subst (λ (k : ℕ). Put before row at k after) e inv
 
 -- the same row by another name
-row-same : {bytes : List ℕ} {x : Execution} {t : Operations} {marks : List (List ℕ)} {o : ℕ} (row row' : ℕ → ℕ) → ((f : ℕ) → f < 18 → row' f ≡ row f) → RowOf x t marks o bytes row → RowOf x t marks o bytes row'
+row-same : {bytes : List ℕ} {x : Execution} {t : Operations} {marks : List (List ℕ)} {o : ℕ} (row row' : ℕ → ℕ) → ((f : ℕ) → f < 21 → row' f ≡ row f) → RowOf x t marks o bytes row → RowOf x t marks o bytes row'
 row-same row row' e r = record {
   preds-are = λ a l. ap₂ (λ (u v : ℕ). holds u v a) (e 0 (omega arith)) (e 1 (omega arith)) ∙ r .preds-are a l;
   partners-are = λ a l. ap₂ (λ (u v : ℕ). holds u v a) (e 2 (omega arith)) (e 3 (omega arith)) ∙ r .partners-are a l;
   awaited-are = λ a l. ap₂ (λ (u v : ℕ). holds u v a) (e 4 (omega arith)) (e 5 (omega arith)) ∙ r .awaited-are a l;
   bypasses-are = λ a l. ap₂ (λ (u v : ℕ). holds u v a) (e 6 (omega arith)) (e 7 (omega arith)) ∙ r .bypasses-are a l;
-  writes-bits = λ i l. ap (λ (u : ℕ). bit u i) (e 8 (omega arith)) ∙ r .writes-bits i l;
-  writes-data = λ i l. ap (λ (u : ℕ). bit u i) (e 9 (omega arith)) ∙ r .writes-data i l;
-  writes-word = λ w. e 10 (omega arith) ∙ r .writes-word w;
-  reads-bits = λ i l. ap (λ (u : ℕ). bit u i) (e 11 (omega arith)) ∙ r .reads-bits i l;
-  reads-data = λ i l. ap (λ (u : ℕ). bit u i) (e 12 (omega arith)) ∙ r .reads-data i l;
-  reads-visible = λ w. e 13 (omega arith) ∙ r .reads-visible w;
-  reads-own = λ w. e 14 (omega arith) ∙ r .reads-own w;
-  own-is = e 15 (omega arith) ∙ r .own-is;
-  local-is = e 16 (omega arith) ∙ r .local-is;
-  read-is = e 17 (omega arith) ∙ r .read-is;
+  writes-bits = λ h i g l. ap (λ (u : ℕ). bit u i) (e (8 + h) (omega arith)) ∙ r .writes-bits h i g l;
+  writes-data = λ h i g l. ap (λ (u : ℕ). bit u i) (e (10 + h) (omega arith)) ∙ r .writes-data h i g l;
+  writes-word = λ w. e 12 (omega arith) ∙ r .writes-word w;
+  reads-bits = λ h i g l. ap (λ (u : ℕ). bit u i) (e (13 + h) (omega arith)) ∙ r .reads-bits h i g l;
+  reads-data = λ h i g l. ap (λ (u : ℕ). bit u i) (e (15 + h) (omega arith)) ∙ r .reads-data h i g l;
+  reads-visible = λ w. e 17 (omega arith) ∙ r .reads-visible w;
+  own-is = e 18 (omega arith) ∙ r .own-is;
+  local-is = e 19 (omega arith) ∙ r .local-is;
+  read-is = e 20 (omega arith) ∙ r .read-is;
 }
 
 -- The invariant: the rows of the first o operations are in.
 pub record Filled (bytes : List ℕ) (x : Execution) (t : Operations) (marks : List (List ℕ)) (n : ℕ) (rows : List ℕ) (o : ℕ) : Type 0 where
   pub few : o ≤ n
-  pub long : length rows ≡ 2304
+  pub long : length rows ≡ 2688
   pub rowed : (k : ℕ) → k < o → RowOf x t marks k bytes (λ f. field rows f k)
 
-pub filled-none : {bytes : List ℕ} {x : Execution} {t : Operations} {marks : List (List ℕ)} {n : ℕ} {rows : List ℕ} → length rows ≡ 2304 → Filled bytes x t marks n rows 0
+pub filled-none : {bytes : List ℕ} {x : Execution} {t : Operations} {marks : List (List ℕ)} {n : ℕ} {rows : List ℕ} → length rows ≡ 2688 → Filled bytes x t marks n rows 0
 filled-none l = record { few = omega arith; long = l; rowed = λ k h. absurd (omega arith) }
 
 pub filled-more : {bytes : List ℕ} {x : Execution} {t : Operations} {marks : List (List ℕ)} {n : ℕ} {rows : List ℕ} {o : ℕ} → Filled bytes x t marks n rows o → o < n → n ≤ 128 → (row : List ℕ)
-    → RowOf x t marks o bytes (λ f. getD row f 0) → {after : List ℕ} → Put rows row (18 * o) 18 after → Filled bytes x t marks n after (o + 1)
+    → RowOf x t marks o bytes (λ f. getD row f 0) → {after : List ℕ} → Put rows row (21 * o) 21 after → Filled bytes x t marks n after (o + 1)
 filled-more {bytes} {x} {t} {marks} {n} {rows} {o} inv l few row made {after} put = record {
   few = omega arith;
   long = put .long ∙ inv .long;
@@ -76,7 +75,7 @@ filled-more {bytes} {x} {t} {marks} {n} {rows} {o} inv l few row made {after} pu
 }
   where
     go : (k : ℕ) → k < o + 1 → Dec (k < o) → RowOf x t marks k bytes (λ f. field after f k)
-    go k h (yes m) = row-same (λ f. field rows f k) (λ f. field after f k) (λ f s. put .old (18 * k + f) (inl (omega arith))) (inv .rowed k m)
+    go k h (yes m) = row-same (λ f. field rows f k) (λ f. field after f k) (λ f s. put .old (21 * k + f) (inl (omega arith))) (inv .rowed k m)
     go k h (no m) =
         let e : o ≡ k = omega arith in
         subst (λ (j : ℕ). RowOf x t marks j bytes (λ f. field after f j)) e (row-same (λ f. getD row f 0) (λ f. field after f o) (λ f s. put .new f s) made)

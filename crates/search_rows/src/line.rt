@@ -1,4 +1,4 @@
-// The bytes of an access in its line as one word, the lowest address in the low byte.
+// The bytes of an access in one line as one word, the lowest address in the low byte.
 ghost use mathlib.Core.Path.{_≡_};
 ghost use mathlib.Core.Bool.{_&&_, _||_};
 ghost use Prim.Native.Nat.{ℕ, _+_, _*_, _-_, _/_, _%_, _<_, _≤_};
@@ -44,7 +44,7 @@ pub fn relative_from(
     address: usize,
     size: usize,
 ) -> u64
-    requires { ⌜ (count ≤ 8) × (w .0 < 40) × (from ≤ 8) × (address < 256) × (address % 8 + size ≤ 8) ⌝ }
+    requires { ⌜ (count ≤ 8) × (w .0 < 40) × (from + size ≤ 16) × (address < 512) × (address % 8 + size ≤ 8) ⌝ }
     ensures { λ r. ⌜ ((i : ℕ) → i < 64 → bit r i ≡ relativeBit (now (bytes .entry)) count (now («data» .entry)) (16 * w .0 + from) address size i) ⌝ }
 {
     let at = DATA_STRIDE * w.0 + from;

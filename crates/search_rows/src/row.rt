@@ -1,4 +1,4 @@
-// The row of one operation: eighteen words.
+// The row of one operation: 21 words.
 ghost use mathlib.Core.Path.{_≡_};
 ghost use mathlib.Core.Bool.{true, cond, _&&_};
 ghost use mathlib.Core.List.{List};
@@ -11,7 +11,8 @@ ghost use Rattle.record_decoded.specs.Kinds.{meant};
 ghost use Rattle.record_decoded.specs.Decoded.{executionOf};
 ghost use Rattle.relation_links.specs.Compiled.{Compiled};
 ghost use Rattle.search_admit.specs.Rows.{writes, visibleAt, ownAt, RowOf};
-ghost use Rattle.search_rows.specs.Lent.{Lent, CoveredBits, RelativeValues};
+ghost use Rattle.search_rows.specs.Lent.{Lent, CoveredBits, RelativeValues, PairAt};
+use crate::words::ACCESS_WORDS;
 use record_decoded::kind::Kind;
 use record_decoded::kind::ROLE_LV;
 use record_decoded::kind::ROLE_R;
@@ -31,6 +32,7 @@ use record_decoded::types::wide16;
 use relation_links::operations::Operations;
 use relation_marks::table::both;
 use search_admit::ROW;
+use search_admit::TwoWords;
 use search_admit::WORDS;
 use search_constraints::awaited_at;
 use search_constraints::bypasses_at;
@@ -48,11 +50,26 @@ fn is_writing(role: u8) -> bool
     }
 }
 
-// A word where it is wanted, else 0.
-fn wanted(is: bool, word: u64) -> u64
-    ensures { λ r. ⌜ r ≡ cond is word 0 ⌝ }
+// The two words of an instruction in an array.
+fn words_at(words: &[u64; ACCESS_WORDS], w: InstructionNo) -> TwoWords
+    requires { ⌜ w .0 < 40 ⌝ }
+    ensures { λ r. ⌜ PairAt (now (words .entry)) (w .0) (r .first) (r .next) ⌝ }
 {
-    if is { word } else { 0 }
+    let at = w.0;
+    let first = words[2 * at];
+    let next = words[2 * at + 1];
+    TwoWords { first, next }
+}
+
+// Words where they are wanted, else 0.
+fn wanted(is: bool, words: TwoWords) -> TwoWords
+    ensures { λ r. ⌜ (r .first ≡ cond is (words .first) 0) × (r .next ≡ cond is (words .next) 0) ⌝ }
+{
+    if is {
+        words
+    } else {
+        TwoWords { first: 0, next: 0 }
+    }
 }
 
 // The number of an operation's store's operation, or its own.
@@ -117,12 +134,13 @@ pub fn row_of<'a>(
     firsts: &'a [u16; MOST_INSTRUCTIONS],
     processors: &'a [u8; MOST_INSTRUCTIONS],
     addresses: &'a [u8; MOST_INSTRUCTIONS],
-    bits: &'a [u64; MOST_INSTRUCTIONS],
-    seen: &'a [u64; MOST_INSTRUCTIONS],
-    written: &'a [u64; MOST_INSTRUCTIONS],
+    sizes: &'a [u8; MOST_INSTRUCTIONS],
+    bits: &'a [u64; ACCESS_WORDS],
+    seen: &'a [u64; ACCESS_WORDS],
+    written: &'a [u64; ACCESS_WORDS],
     o: OperationNo,
 ) -> [u64; ROW]
-    requires { ⌜ Compiled x t (now marks) × ((bytes : List ℕ) → Accepted (executionOf bytes x)) × (o .0 < t .count) × Lent x t (now owners) (now roles) (now kinds) (now firsts) (now processors) (now addresses) × CoveredBits x (now bits) ⌝ }
+    requires { ⌜ Compiled x t (now marks) × ((bytes : List ℕ) → Accepted (executionOf bytes x)) × (o .0 < t .count) × Lent x t (now owners) (now roles) (now kinds) (now firsts) (now processors) (now addresses) (now sizes) × CoveredBits x (now bits) ⌝ }
     ensures { λ r. ⌜ ((bytes : List ℕ) → RelativeValues bytes x (now (seen .entry)) (now (written .entry)) → RowOf x t (now (marks .entry)) (o .0) bytes (λ (f : ℕ). getD r f 0)) ⌝ }
 {
     let every = x.processors;
@@ -153,12 +171,13 @@ pub fn row_of<'a>(
         firsts,
         processors,
         addresses,
+        sizes,
         InstructionNo(w),
         role,
     );
-    let covered = bits[w];
-    let saw = seen[w];
-    let wrote = written[w];
+    let covered = words_at(bits, InstructionNo(w));
+    let saw = words_at(seen, InstructionNo(w));
+    let wrote = words_at(written, InstructionNo(w));
     let writing = is_writing(role);
     let reading = role == ROLE_R;
     let written_bits = wanted(writing, covered);
@@ -167,7 +186,6 @@ pub fn row_of<'a>(
     let read_bits = wanted(reading, covered);
     let read_data = wanted(reading, saw);
     let visible_word = visible_at(processor, line) as u64;
-    let own_word = own_at(processor, line) as u64;
     let own_rv = number_of(OperationNo(first), kind, Role::RV(processor));
     let lv = number_of(OperationNo(first), kind, Role::LV);
     let own = number_or_own(writing, own_rv, o);
@@ -185,13 +203,16 @@ pub fn row_of<'a>(
         awaited.hi,
         bypasses.lo,
         bypasses.hi,
-        written_bits,
-        written_data,
+        written_bits.first,
+        written_bits.next,
+        written_data.first,
+        written_data.next,
         written_word,
-        read_bits,
-        read_data,
+        read_bits.first,
+        read_bits.next,
+        read_data.first,
+        read_data.next,
         visible_word,
-        own_word,
         own_number,
         local_number,
         read_number,

@@ -15,7 +15,6 @@ use record_decoded::types::MOST_INSTRUCTIONS;
 use record_decoded::types::OperationNo;
 use relation_links::operations::Operations;
 use search_admit::ROW;
-use search_admit::TABLE;
 
 // Puts the row of an operation in.
 fn put_row(rows: &mut [u64], o: OperationNo, row: &[u64])
@@ -37,15 +36,16 @@ fn known_data(x: Execution)
     known_bytes(&data);
 }
 
-// What is compiled of an execution.
-pub fn rows_of(
+// Puts in what is compiled of an execution.
+pub fn put_rows(
     bytes: &[u8],
     x: Execution,
     t: Operations,
     marks: &[[u16; MOST_INSTRUCTIONS]; MOST_INSTRUCTIONS],
-) -> [u64; TABLE]
-    requires { ⌜ Compiled x t (now marks) × Accepted (executionOf (now bytes) x) ⌝ }
-    ensures { λ r. ⌜ RowsMean (now (bytes .entry)) x t (now (marks .entry)) r ⌝ }
+    rows: &mut [u64],
+)
+    requires { ⌜ Compiled x t (now marks) × Accepted (executionOf (now bytes) x) × (length (now rows) ≡ tableLength) ⌝ }
+    ensures { λ _. ⌜ RowsMean (now (bytes .entry)) x t (now (marks .entry)) (now (rows .exit)) ⌝ }
 {
     let n = t.count;
     let owners = t.owners;
@@ -55,11 +55,11 @@ pub fn rows_of(
     let firsts = is.firsts;
     let processors = is.processors;
     let addresses = is.addresses;
+    let sizes = is.sizes;
     let words = access_words(bytes, x);
     let bits = words.bits;
     let seen = words.seen;
     let written = words.written;
-    let mut rows = [0u64; TABLE];
     for o in 0..n {
         let row = row_of(
             x,
@@ -71,15 +71,15 @@ pub fn rows_of(
             &firsts,
             &processors,
             &addresses,
+            &sizes,
             &bits,
             &seen,
             &written,
             OperationNo(o),
         );
-        put_row(&mut rows, OperationNo(o), &row);
+        put_row(rows, OperationNo(o), &row);
     }
     known_data(x);
     // One by one, and none is kept.
     known_bytes(bytes);
-    rows
 }

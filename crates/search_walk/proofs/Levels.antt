@@ -16,10 +16,11 @@ use Rattle.base.proofs.Lists.{member-append, distinct-first, distinct-entry}
 use Rattle.relation_places.specs.Places.{placeFrom, placed, Placed}
 use Rattle.relation_places.proofs.PlaceLaws.{place-absent, placed-there, placed-append}
 use Rattle.search_sets.specs.Set.{holds}
-use Rattle.search_admit.specs.Rows.{writtenWord, wordsWith, wordsFrom, wordsAfter, firstWords}
+use Rattle.search_admit.specs.Rows.{writtenWord, wordsWritten, wordsUpTo, wordsWith, replacedWith, wordsWithout, wordsFrom, wordsAfter, firstWords}
 use Rattle.search_sets.proofs.Tables.{putAt, put-low, put-high, put-here, put-word, put-other, put-length}
 use Rattle.search_admit.specs.Fits.{dueAfter, dueOf, enabled}
 use Rattle.search_admit.proofs.FitLaws.{due-more}
+use Rattle.search_admit.proofs.WordLaws.{few-written, kept-there, kept-other, back-again}
 use Rattle.search_enabled.specs.Affects.{Affecting, enabledAfter}
 use Rattle.search_enabled.proofs.Unaffected.{enabled-more}
 use Rattle.search_walk.specs.Walks.{stands, enables, opens, low, high, Levels, Level, Remembered}
@@ -67,50 +68,49 @@ unfolding wordsFrom
 words-more rows words [] x = refl
 words-more rows words (y ∷ xs) x = words-more rows (wordsWith rows words y) xs x
 
--- an entry put back
-restored : (ws : List ℕ) (c v : ℕ) → set (set ws c v) c (getD ws c 0) ≡ ws
-restored [] zero v = refl
-restored [] (suc c) v = refl
-restored (w ∷ ws) zero v = refl
-restored (w ∷ ws) (suc c) v = ap (λ (l : List ℕ). w ∷ l) (restored ws c v)
-
 module _ {rows position words replaced : List ℕ} {k : ℕ} (r : Remembered rows position words replaced k) where
   -- the last entry is taken away
   pub remembered-less : (j last : ℕ) → j < k → last ≡ getD position j 0 → take k position ≡ take j position ++ (last ∷ [])
-      → Remembered rows position (set words (writtenWord rows last) (getD replaced j 0)) replaced j
+      → Remembered rows position (wordsWithout rows words replaced j last) replaced j
   remembered-less j last l is shorter = record {
     now-are =
-        ap (λ (ws : List ℕ). set ws (writtenWord rows last) (getD replaced j 0))
+        ap (λ (ws : List ℕ). wordsWithout rows ws replaced j last)
         (r .now-are ∙ ap (wordsAfter rows) shorter ∙ words-more rows firstWords (take j position) last)
-        ∙ ap (set (wordsWith rows (wordsAfter rows (take j position)) last) (writtenWord rows last))
-        (r .were j l ∙ ap (λ (o : ℕ). getD (wordsAfter rows (take j position)) (writtenWord rows o) 0) (sym is))
-        ∙ restored (wordsAfter rows (take j position)) (writtenWord rows last) _;
-    were = λ i h. r .were i (omega arith);
+        ∙ back-again rows (wordsAfter rows (take j position)) replaced j last (wordsWritten rows last)
+        (λ h g. subst (λ (o : ℕ). h < wordsWritten rows o → getD replaced (2 * j + h) 0 ≡ getD (wordsUpTo rows (wordsAfter rows (take j position)) o h) (writtenWord rows h o) 0) (sym is) (r .were j h l) g);
+    were = λ i h g. r .were i h (omega arith);
   }
 
   -- an entry more
-  pub remembered-more : (x : ℕ) → length position ≡ 128 → length replaced ≡ 128 → k < 128
-      → Remembered rows (set position k x) (wordsWith rows words x) (set replaced k (getD words (writtenWord rows x) 0)) (k + 1)
+  pub remembered-more : (x : ℕ) → length position ≡ 128 → length replaced ≡ 256 → k < 128
+      → Remembered rows (set position k x) (wordsWith rows words x) (replacedWith rows words replaced k x) (k + 1)
   remembered-more x whole full few = record {
     now-are =
         ap (λ (ws : List ℕ). wordsWith rows ws x) (r .now-are)
         ∙ sym (words-more rows firstWords (take k position) x)
         ∙ ap (wordsAfter rows) (sym (one-more position k x (omega arith)));
-    were = λ j h. go j h (ℕ-discrete j k);
+    were = λ j h l g. go j h l g (ℕ-discrete j k);
   }
     where
-      go : (j : ℕ) → j < k + 1 → Dec (j ≡ k)
-          → getD (set replaced k (getD words (writtenWord rows x) 0)) j 0
-          ≡ getD (wordsAfter rows (take j (set position k x))) (writtenWord rows (getD (set position k x) j 0)) 0
-      go j h (yes q) =
-          rw q
-          (getD-set-same replaced k _ 0 (omega arith)
-          ∙ ap₂ (λ (ws : List ℕ) (o : ℕ). getD ws (writtenWord rows o) 0)
-          (r .now-are ∙ ap (wordsAfter rows) (sym (take-set-le k position k x (omega arith)))) (sym (getD-set-same position k x 0 (omega arith))))
-      go j h (no q) =
-          getD-set-other replaced k j _ 0 q ∙ r .were j (omega arith)
-          ∙ ap₂ (λ (ws : List ℕ) (o : ℕ). getD ws (writtenWord rows o) 0)
-          (ap (wordsAfter rows) (sym (take-set-le j position k x (omega arith)))) (sym (getD-set-other position k j x 0 q))
+      Was : ℕ → ℕ → List ℕ → ℕ → Type 0
+      Was j h ws o = getD (replacedWith rows words replaced k x) (2 * j + h) 0 ≡ getD (wordsUpTo rows ws o h) (writtenWord rows h o) 0
+
+      go : (j h : ℕ) → j < k + 1 → h < wordsWritten rows (getD (set position k x) j 0) → Dec (j ≡ k)
+          → Was j h (wordsAfter rows (take j (set position k x))) (getD (set position k x) j 0)
+      go j h l g (yes q) =
+          let its : getD (set position k x) j 0 ≡ x = ap (λ (i : ℕ). getD (set position k x) i 0) q ∙ getD-set-same position k x 0 (omega arith) in
+          let were : words ≡ wordsAfter rows (take j (set position k x)) =
+          r .now-are ∙ ap (wordsAfter rows) (sym (take-set-le k position k x (omega arith))) ∙ ap (λ (i : ℕ). wordsAfter rows (take i (set position k x))) (sym q) in
+          subst (λ (o : ℕ). Was j h (wordsAfter rows (take j (set position k x))) o) (sym its)
+          (subst (λ (ws : List ℕ). Was j h ws x) were
+          (ap (λ (i : ℕ). getD (replacedWith rows words replaced k x) (2 * i + h) 0) q
+          ∙ kept-there rows words replaced k x (wordsWritten rows x) h (omega (arith, few-written rows x)) (subst (λ (o : ℕ). h < wordsWritten rows o) its g)))
+      go j h l g (no q) =
+          let its : getD (set position k x) j 0 ≡ getD position j 0 = getD-set-other position k j x 0 q in
+          let below : h < wordsWritten rows (getD position j 0) = subst (λ (o : ℕ). h < wordsWritten rows o) its g in
+          subst (λ (o : ℕ). Was j h (wordsAfter rows (take j (set position k x))) o) (sym its)
+          (subst (λ (xs : List ℕ). Was j h (wordsAfter rows xs) (getD position j 0)) (sym (take-set-le j position k x (omega arith)))
+          (kept-other rows words replaced k x (wordsWritten rows x) (2 * j + h) (omega (arith, below, few-written rows (getD position j 0))) ∙ r .were j h (omega arith) below))
 
 -- the three sets of a level, put one after the other
 module _ (rows affected words levels : List ℕ) (x k lo hi slo shi blo bhi elo ehi olo ohi : ℕ) (long : length levels ≡ 774) (small : k < 128)

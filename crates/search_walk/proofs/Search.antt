@@ -18,7 +18,8 @@ use Rattle.base.proofs.Lex.{less-transitive, less-extension, less-fork}
 use Rattle.relation_places.specs.Places.{Placed}
 use Rattle.search_sets.specs.Set.{holds}
 use Rattle.search_sets.specs.declared.Set.{Set}
-use Rattle.search_admit.specs.Rows.{writtenWord, wordsWith, wordsAfter}
+use Rattle.search_admit.proofs.WordLaws.{words-length, without-length}
+use Rattle.search_admit.specs.Rows.{wordsWith, replacedWith, wordsWithout, wordsAfter}
 use Rattle.search_admit.specs.Fits.{dueOf, ready, refused, readsRecorded, enabled, fitsBy, Standing, Tested}
 use Rattle.search_enabled.specs.Affects.{Affecting}
 use Rattle.search_walk.specs.declared.WalkAnswer.the-variants.{Next, End}
@@ -174,7 +175,7 @@ module _ {n : ℕ} {rows xs : List ℕ} {size : ℕ} {position places levels wor
 
     -- no candidate is left at this level: the last entry is taken away
     pub search-up : (s : Set) → n ≤ c → (s .lo ≡ getD levels (2 * (3 * j + 2)) 0) × (s .hi ≡ getD levels (2 * (3 * j + 2) + 1) 0)
-        → Search n rows xs size position (set places last 255) levels (set words (writtenWord rows last) (getD replaced j 0)) replaced (s .lo) (s .hi) j (last + 1) (turn + 1)
+        → Search n rows xs size position (set places last 255) levels (wordsWithout rows words replaced j last) replaced (s .lo) (s .hi) j (last + 1) (turn + 1)
     search-up s none-left open-at = record {
       from = at .from;
       within = omega (arith, at .within);
@@ -184,7 +185,7 @@ module _ {n : ℕ} {rows xs : List ℕ} {size : ℕ} {position places levels wor
       places-hold = placed-less n (take j position) last places (at .long) (subst (λ (ys : List ℕ). Placed n ys places) shorter (at .places-hold));
       long = length-set places last 255 ∙ at .long;
       remembers = remembered-less (at .remembers) j last (omega arith) is shorter;
-      wide = length-set words (writtenWord rows last) (getD replaced j 0) ∙ at .wide;
+      wide = without-length rows words replaced j last ∙ at .wide;
       later = less-transitive xs (take k position ++ c ∷ []) (take j position ++ (last + 1) ∷ []) (at .later)
           (subst (λ (ys : List ℕ). Less ys (take j position ++ (last + 1) ∷ [])) (sym (point ∙ append-snoc (take j position) last (n ∷ [])))
           (less-fork (take j position) last (last + 1) (n ∷ []) [] (omega arith)));
@@ -214,17 +215,17 @@ module _ {n : ℕ} {rows xs : List ℕ} {size : ℕ} {position places levels wor
       no-level (suc j) e = absurd (omega (arith, at .from .room))
 
   -- the candidate is open and not refused
-  pub search-found : (affected : List ℕ) → Affecting n rows affected → length replaced ≡ 128 → c < n → holds lo hi c ≡ true
+  pub search-found : (affected : List ℕ) → Affecting n rows affected → length replaced ≡ 256 → c < n → holds lo hi c ≡ true
       → refused rows places (low levels k) (high levels k) c ≡ false
       → {position' places' levels' words' replaced' : List ℕ} → position' ≡ set position k c → places' ≡ set places c k → words' ≡ wordsWith rows words c
-      → replaced' ≡ set replaced k (getD words (writtenWord rows c) 0) → Level rows affected words' c k levels levels'
+      → replaced' ≡ replacedWith rows words replaced k c → Level rows affected words' c k levels levels'
       → Walked n rows xs (Next (k + 1)) position' places' levels' words' replaced'
   search-found affected affecting-are full l is-open free {levels' = levels'} d e f g made = rw (d, e, f, g) record {
     ready = (
       omega (arith, at .within, at .from .room),
       length-set position k c ∙ at .from .whole,
       length-set places c k ∙ at .long,
-      length-set words (writtenWord rows c) _ ∙ at .wide,
+      words-length rows words c ∙ at .wide,
       record {
         placed = stands-placed;
         levelled = levels-more (levels-less (at .from .levelled) k (at .within)) affected affecting-are (at .from .few) c l inside

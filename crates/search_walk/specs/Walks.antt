@@ -10,7 +10,7 @@ use Rattle.base.specs.Lists.{member, distinct}
 use Rattle.base.specs.Lex.{Less}
 use Rattle.relation_places.specs.Places.{Placed}
 use Rattle.search_sets.specs.Set.{setAt}
-use Rattle.search_admit.specs.Rows.{writtenWord, wordsWith, wordsAfter}
+use Rattle.search_admit.specs.Rows.{writtenWord, wordsWritten, wordsUpTo, wordsWith, replacedWith, wordsAfter}
 use Rattle.search_admit.specs.Fits.{dueAfter, dueOf, refused, enabled, Tested}
 use Rattle.search_enabled.specs.Affects.{enabledAfter}
 use Rattle.search_walk.specs.declared.WalkAnswer.{WalkAnswer}
@@ -59,13 +59,14 @@ pub record Entered (rows affected : List ℕ) (x k : ℕ) (r : Bool) (position p
   pub told : r ≡ not (refused rows places (low levels k) (high levels k) x)
   pub made : r ≡ true
       → (position' ≡ set position k x) × (places' ≡ set places x k) × (words' ≡ wordsWith rows words x)
-      × (replaced' ≡ set replaced k (getD words (writtenWord rows x) 0)) × Level rows affected words' x k levels levels' × (length replaced ≡ 128)
+      × (replaced' ≡ replacedWith rows words replaced k x) × Level rows affected words' x k levels levels' × (length replaced ≡ 256)
   pub left : r ≡ false → (position' ≡ position) × (places' ≡ places) × (levels' ≡ levels) × (words' ≡ words) × (replaced' ≡ replaced)
 
--- the words are those after the first `size` entries, and for each of these the word that it wrote over is kept
+-- the words are those after the first `size` entries, and for each of these the words that it wrote over are kept
 pub record Remembered (rows position words replaced : List ℕ) (size : ℕ) : Type 0 where
   pub now-are : words ≡ wordsAfter rows (take size position)
-  pub were : (j : ℕ) → j < size → getD replaced j 0 ≡ getD (wordsAfter rows (take j position)) (writtenWord rows (getD position j 0)) 0
+  pub were : (j h : ℕ) → j < size → h < wordsWritten rows (getD position j 0)
+      → getD replaced (2 * j + h) 0 ≡ getD (wordsUpTo rows (wordsAfter rows (take j position)) (getD position j 0) h) (writtenWord rows h (getD position j 0)) 0
 
 -- with a prefix each shorter one passes the test
 abbrev pub Closed : (List ℕ → Bool) → Type 0

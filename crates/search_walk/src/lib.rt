@@ -1,14 +1,15 @@
 // The walk: from a consistent prefix that is not full to the next one in lexicographic order.
 ghost use mathlib.Core.Path.{_≡_};
-ghost use Prim.Native.Nat.{_<_, _≤_};
+ghost use Prim.Native.Nat.{_+_, _*_, _<_, _≤_};
 ghost use lib.ListN.{length, getD, set, take};
-ghost use Rattle.search_admit.specs.Rows.{writtenWord, wordsWith};
+ghost use Rattle.search_admit.specs.Rows.{wordsWith, replacedWith, wordsWithout};
 ghost use Rattle.search_enabled.specs.Affects.{Affecting};
 ghost use Rattle.search_walk.specs.Walks.{levelsLength, Level, Entered, Kept, Walked};
 use record_decoded::position::Position;
 use record_decoded::types::OperationNo;
 use record_decoded::types::wide;
 use relation_places::ABSENT;
+use search_admit::REPLACED;
 use search_admit::TABLE;
 use search_admit::WORDS;
 use search_admit::is_refused;
@@ -72,13 +73,13 @@ fn add_entry(
     affected: &[u64; AFFECTED],
     x: OperationNo,
 )
-    requires { ⌜ (k < 128) × (x .0 < 128) × (length (now position) ≡ 128) × (length (now places) ≡ 128) × (length (now levels) ≡ levelsLength) × (length (now words) ≡ 128) × (length (now replaced) ≡ 128) ⌝ }
-    ensures { λ r. ⌜ (now (position .exit) ≡ set (now (position .entry)) k (x .0)) × (now (places .exit) ≡ set (now (places .entry)) (x .0) k) × (now (words .exit) ≡ wordsWith (now (rows .entry)) (now (words .entry)) (x .0)) × (now (replaced .exit) ≡ set (now (replaced .entry)) k (getD (now (words .entry)) (writtenWord (now (rows .entry)) (x .0)) 0)) × Level (now (rows .entry)) (now (affected .entry)) (now (words .exit)) (x .0) k (now (levels .entry)) (now (levels .exit)) ⌝ }
+    requires { ⌜ (k < 128) × (x .0 < 128) × (length (now position) ≡ 128) × (length (now places) ≡ 128) × (length (now levels) ≡ levelsLength) × (length (now words) ≡ 128) × (length (now replaced) ≡ 256) ⌝ }
+    ensures { λ r. ⌜ (now (position .exit) ≡ set (now (position .entry)) k (x .0)) × (now (places .exit) ≡ set (now (places .entry)) (x .0) k) × (now (words .exit) ≡ wordsWith (now (rows .entry)) (now (words .entry)) (x .0)) × (now (replaced .exit) ≡ replacedWith (now (rows .entry)) (now (words .entry)) (now (replaced .entry)) k (x .0)) × Level (now (rows .entry)) (now (affected .entry)) (now (words .exit)) (x .0) k (now (levels .entry)) (now (levels .exit)) ⌝ }
 {
     let o = x.0;
     position[k] = o as u8;
     places[o] = k as u8;
-    replaced[k] = write(rows, words, x);
+    write(rows, words, replaced, k, x);
     add_level(levels, k, words, rows, affected, x);
 }
 
@@ -89,7 +90,7 @@ pub fn enter(
     places: &mut [u8; Position::LIMIT],
     levels: &mut [u64; LEVELS],
     words: &mut [u64; WORDS],
-    replaced: &mut [u64; Position::LIMIT],
+    replaced: &mut [u64; REPLACED],
     rows: &[u64; TABLE],
     affected: &[u64; AFFECTED],
     x: OperationNo,
@@ -123,17 +124,17 @@ fn remove_entry(
     replaced: &[u64],
     rows: &[u64; TABLE],
 ) -> OperationNo
-    requires { ⌜ (k < length (now position)) × (k < length (now replaced)) × (getD (now position) k 0 < 128) × (length (now places) ≡ 128) × (length (now words) ≡ 128) ⌝ }
-    ensures { λ r. ⌜ (r .0 ≡ getD (now (position .entry)) k 0) × (now (places .exit) ≡ set (now (places .entry)) (r .0) 255) × (now (words .exit) ≡ set (now (words .entry)) (writtenWord (now (rows .entry)) (r .0)) (getD (now (replaced .entry)) k 0)) ⌝ }
+    requires { ⌜ (k < length (now position)) × (k < 128) × (2 * k + 1 < length (now replaced)) × (getD (now position) k 0 < 128) × (length (now places) ≡ 128) × (length (now words) ≡ 128) ⌝ }
+    ensures { λ r. ⌜ (r .0 ≡ getD (now (position .entry)) k 0) × (now (places .exit) ≡ set (now (places .entry)) (r .0) 255) × (now (words .exit) ≡ wordsWithout (now (rows .entry)) (now (words .entry)) (now (replaced .entry)) k (r .0)) ⌝ }
 {
     let last = wide(position[k]);
     places[last] = ABSENT;
-    unwrite(rows, words, OperationNo(last), replaced[k]);
+    unwrite(rows, words, replaced, k, OperationNo(last));
     OperationNo(last)
 }
 
 // From the first `size` entries of the position. `levels` has the sets of its first j entries as level j, `places` the places of all entries, `words`
-// what they wrote, and `replaced` the word that each wrote over. The next candidate is the lowest that is open, and not refused.
+// what they wrote, and `replaced` the words that each wrote over. The next candidate is the lowest that is open, and not refused.
 pub fn walk(
     n: usize,
     position: &mut [u8; Position::LIMIT],
@@ -141,7 +142,7 @@ pub fn walk(
     places: &mut [u8; Position::LIMIT],
     levels: &mut [u64; LEVELS],
     words: &mut [u64; WORDS],
-    replaced: &mut [u64; Position::LIMIT],
+    replaced: &mut [u64; REPLACED],
     rows: &[u64; TABLE],
     affected: &[u64; AFFECTED],
 ) -> WalkAnswer

@@ -7,13 +7,13 @@ use lib.ListN.{length, getD, take, drop}
 use borrow.Author.Tests.{not-true, not-false}
 use Rattle.model.specs.Questions.{question8, question9}
 use Rattle.model.specs.Execution.{Kind}
-use Rattle.model.proofs.Accepted.{size-small}
+use Rattle.model.proofs.Accepted.{data-within, more-few}
 use Rattle.record_decoded.specs.declared.types.Asked.the-variants.{Pass}
 use Rattle.record_decoded.specs.Kinds.{meant}
 use Rattle.record_decoded.specs.Decoded.{attributesOf}
 use Rattle.record_decoded.specs.declared.types.Lines.{Lines}
 use Rattle.record_decoded.proofs.Arrays.{attributes-length}
-use Rattle.record_programs.proofs.EntryLaws.{Asks, entry-short, entry-kind, entry-size, entry-cut, entry-address, entry-line, entry-data, entry-passes}
+use Rattle.record_programs.proofs.EntryLaws.{Asks, entry-short, entry-kind, entry-size, entry-cut, entry-address, entry-line, entry-lines, entry-data, entry-passes}
 use borrow.Author.Needs.{needs}
 use Rattle.record_programs.proofs.instruction_question.Statement.{statement}
 use Rattle.record_programs.proofs.instruction_question.Tie as tie
@@ -97,31 +97,45 @@ returns-6 c processors p done =
     (sym (c .before .before .before .before .before .before .before .before .size-passes .ensures) ∙ not-false _ (c .before .before .before .before .before .before .before .if3 .left)) (omega (arith, c .before .before .before .before .before .before .more-length .ensures .0))
     (counted (a .lines) _ _ _ _ (sym (c .before .before .before .address-passes .ensures) ∙ not-false _ (c .before .before .if5 .left))) (sym (c .before .line-passes .ensures) ∙ not-true _ (c .if6 .taken))
 
-add-data-passes : tie.Need-add-data-passes
-add-data-passes c = search needs
-
-cast-data-passes : tie.Need-cast-data-passes
-cast-data-passes c = omega (arith, size-small _ _ (sym (c .before .before .before .before .before .before .before .before .size-passes .ensures) ∙ not-false _ (c .before .before .before .before .before .before .before .if3 .left)))
-
-data-passes-requires : tie.Need-data-passes-requires
-data-passes-requires c κs = search needs
+one-attribute-requires : tie.Need-one-attribute-requires
+one-attribute-requires c κs = search needs
 
 returns-7 : tie.Need-returns-7
 returns-7 c processors p done =
     let a = c .before .before .before .before .before .before .before .before .before .before .before .before .before .before .before .before .before .args in
-    entry-data (a .part .now) (a .at) (attributesOf (a .lines)) processors p done (omega arith) (c .before .before .before .before .before .before .before .before .before .before .before .before .before .if2 .left) (meant (c .before .before .before .before .before .before .before .before .before .before .before .before .kind-of .result)) (c .before .before .before .before .before .before .before .before .before .before .before .before .kind-of .ensures)
+    entry-lines (a .part .now) (a .at) (attributesOf (a .lines)) processors p done (omega arith) (c .before .before .before .before .before .before .before .before .before .before .before .before .before .if2 .left) (meant (c .before .before .before .before .before .before .before .before .before .before .before .before .kind-of .result)) (c .before .before .before .before .before .before .before .before .before .before .before .before .kind-of .ensures)
     (sym (c .before .before .before .before .before .before .before .before .before .before .size-passes .ensures) ∙ not-false _ (c .before .before .before .before .before .before .before .before .before .if3 .left)) (omega (arith, c .before .before .before .before .before .before .before .before .more-length .ensures .0))
-    (counted (a .lines) _ _ _ _ (sym (c .before .before .before .before .before .address-passes .ensures) ∙ not-false _ (c .before .before .before .before .if5 .left))) (sym (c .before .before .before .line-passes .ensures) ∙ not-false _ (c .before .before .if6 .left))
-    (ap (λ (n : ℕ). question9 (getD (a .part .now) (a .at + 2) 0) (take (8 + n) (drop (a .at + 3) (a .part .now)))) (sym (c .before .before .before .before .before .before .before .before .more-length .ensures .0)) ∙ sym (c .before .data-passes .ensures) ∙ not-true _ (c .if7 .taken))
+    (counted (a .lines) _ _ _ _ (sym (c .before .before .before .before .before .address-passes .ensures) ∙ not-false _ (c .before .before .before .before .if5 .left))) (sym (c .before .before .before .line-passes .ensures) ∙ not-false _ (c .before .before .if6 .left)) (sym (c .before .one-attribute .ensures) ∙ not-true _ (c .if7 .taken))
+
+add-data-passes : tie.Need-add-data-passes
+add-data-passes c = search needs
+
+cast-data-passes : tie.Need-cast-data-passes
+cast-data-passes c =
+    let a = c .before .before .before .before .before .before .before .before .before .before .before .before .before .before .before .before .before .args in
+    let k = meant (c .before .before .before .before .before .before .before .before .before .before .before .before .kind-of .result) in
+    let seven = sym (c .before .before .before .before .before .before .before .before .before .before .size-passes .ensures) ∙ not-false _ (c .before .before .before .before .before .before .before .before .before .if3 .left) in
+    omega (arith, data-within k (getD (a .part .now) (a .at + 2) 0) seven, more-few k (getD (a .part .now) (a .at + 2) 0))
+
+data-passes-requires : tie.Need-data-passes-requires
+data-passes-requires c κs = search needs
 
 returns-8 : tie.Need-returns-8
 returns-8 c processors p done =
-    let a = c .before .before .before .before .before .before .before .before .before .before .before .before .before .before .before .before .before .args in
-    subst (λ (n : ℕ). Asks (a .part .now) (a .at) (attributesOf (a .lines)) processors p done (Pass (11 + n))) (sym (c .before .before .before .before .before .before .before .before .more-length .ensures .0))
-    (entry-passes (a .part .now) (a .at) (attributesOf (a .lines)) processors p done (omega arith) (c .before .before .before .before .before .before .before .before .before .before .before .before .before .if2 .left) (meant (c .before .before .before .before .before .before .before .before .before .before .before .before .kind-of .result)) (c .before .before .before .before .before .before .before .before .before .before .before .before .kind-of .ensures)
-    (sym (c .before .before .before .before .before .before .before .before .before .before .size-passes .ensures) ∙ not-false _ (c .before .before .before .before .before .before .before .before .before .if3 .left)) (omega (arith, c .before .before .before .before .before .before .before .before .more-length .ensures .0))
-    (counted (a .lines) _ _ _ _ (sym (c .before .before .before .before .before .address-passes .ensures) ∙ not-false _ (c .before .before .before .before .if5 .left))) (sym (c .before .before .before .line-passes .ensures) ∙ not-false _ (c .before .before .if6 .left))
-    (ap (λ (n : ℕ). question9 (getD (a .part .now) (a .at + 2) 0) (take (8 + n) (drop (a .at + 3) (a .part .now)))) (sym (c .before .before .before .before .before .before .before .before .more-length .ensures .0)) ∙ sym (c .before .data-passes .ensures) ∙ not-false _ (c .if7 .left)))
+    let a = c .before .before .before .before .before .before .before .before .before .before .before .before .before .before .before .before .before .before .before .args in
+    entry-data (a .part .now) (a .at) (attributesOf (a .lines)) processors p done (omega arith) (c .before .before .before .before .before .before .before .before .before .before .before .before .before .before .before .if2 .left) (meant (c .before .before .before .before .before .before .before .before .before .before .before .before .before .before .kind-of .result)) (c .before .before .before .before .before .before .before .before .before .before .before .before .before .before .kind-of .ensures)
+    (sym (c .before .before .before .before .before .before .before .before .before .before .before .before .size-passes .ensures) ∙ not-false _ (c .before .before .before .before .before .before .before .before .before .before .before .if3 .left)) (omega (arith, c .before .before .before .before .before .before .before .before .before .before .more-length .ensures .0))
+    (counted (a .lines) _ _ _ _ (sym (c .before .before .before .before .before .before .before .address-passes .ensures) ∙ not-false _ (c .before .before .before .before .before .before .if5 .left))) (sym (c .before .before .before .before .before .line-passes .ensures) ∙ not-false _ (c .before .before .before .before .if6 .left)) (sym (c .before .before .before .one-attribute .ensures) ∙ not-false _ (c .before .before .if7 .left))
+    (ap (λ (n : ℕ). question9 (getD (a .part .now) (a .at + 2) 0) (take (8 + n) (drop (a .at + 3) (a .part .now)))) (sym (c .before .before .before .before .before .before .before .before .before .before .more-length .ensures .0)) ∙ sym (c .before .data-passes .ensures) ∙ not-true _ (c .if8 .taken))
+
+returns-9 : tie.Need-returns-9
+returns-9 c processors p done =
+    let a = c .before .before .before .before .before .before .before .before .before .before .before .before .before .before .before .before .before .before .before .args in
+    subst (λ (n : ℕ). Asks (a .part .now) (a .at) (attributesOf (a .lines)) processors p done (Pass (11 + n))) (sym (c .before .before .before .before .before .before .before .before .before .before .more-length .ensures .0))
+    (entry-passes (a .part .now) (a .at) (attributesOf (a .lines)) processors p done (omega arith) (c .before .before .before .before .before .before .before .before .before .before .before .before .before .before .before .if2 .left) (meant (c .before .before .before .before .before .before .before .before .before .before .before .before .before .before .kind-of .result)) (c .before .before .before .before .before .before .before .before .before .before .before .before .before .before .kind-of .ensures)
+    (sym (c .before .before .before .before .before .before .before .before .before .before .before .before .size-passes .ensures) ∙ not-false _ (c .before .before .before .before .before .before .before .before .before .before .before .if3 .left)) (omega (arith, c .before .before .before .before .before .before .before .before .before .before .more-length .ensures .0))
+    (counted (a .lines) _ _ _ _ (sym (c .before .before .before .before .before .before .before .address-passes .ensures) ∙ not-false _ (c .before .before .before .before .before .before .if5 .left))) (sym (c .before .before .before .before .before .line-passes .ensures) ∙ not-false _ (c .before .before .before .before .if6 .left)) (sym (c .before .before .before .one-attribute .ensures) ∙ not-false _ (c .before .before .if7 .left))
+    (ap (λ (n : ℕ). question9 (getD (a .part .now) (a .at + 2) 0) (take (8 + n) (drop (a .at + 3) (a .part .now)))) (sym (c .before .before .before .before .before .before .before .before .before .before .more-length .ensures .0)) ∙ sym (c .before .data-passes .ensures) ∙ not-false _ (c .if8 .left)))
 
 pub instruction-question-spec : {M : Type 1} → statement M
 instruction-question-spec =
@@ -146,8 +160,10 @@ instruction-question-spec =
     returns-5
     line-passes-requires
     returns-6
+    one-attribute-requires
+    returns-7
     add-data-passes
     cast-data-passes
     data-passes-requires
-    returns-7
-    returns-8)
+    returns-8
+    returns-9)

@@ -1,6 +1,7 @@
--- Eight for a semaphore, else none.
+-- Eight for a semaphore and for size 16, else none.
 use borrow.Author.Needs.{needs}
 use native.Mathlib.Omega.{arith}
+use borrow.Author.Tests.{eq-eqb, ne-eqb}
 use Rattle.record_programs.proofs.more_length.Statement.{statement}
 use Rattle.record_programs.proofs.more_length.Tie as tie
 
@@ -11,7 +12,10 @@ returns : tie.Need-returns
 returns c = (rw (← (c .before .is-semaphore .ensures), c .if1 .taken), omega arith)
 
 returns-2 : tie.Need-returns-2
-returns-2 c = (rw (← (c .before .is-semaphore .ensures), c .if1 .left), omega arith)
+returns-2 c = (rw (← (c .before .before .is-semaphore .ensures), c .before .if1 .left, eq-eqb _ 16 (c .if2 .taken)), omega arith)
+
+returns-3 : tie.Need-returns-3
+returns-3 c = (rw (← (c .before .before .is-semaphore .ensures), c .before .if1 .left, ne-eqb _ 16 (c .if2 .left)), omega arith)
 
 pub more-length-spec : {M : Type 1} → statement M
-more-length-spec = tie.close (tie.spec is-semaphore-requires returns returns-2)
+more-length-spec = tie.close (tie.spec is-semaphore-requires returns returns-2 returns-3)

@@ -46,7 +46,7 @@ with-instruction-requires c κs =
     let inv = c .before .before .before .before .before .loop .inv in
     let e = c .before .before .before .instruction-question .ensures (a .processors) (a .p) (instructionsOf (c .before .before .before .before .before .loop .instructions)) in
     let g = c .before .asked2 .given .1 in
-    (omega (arith, inv .2), (omega (arith, e .answered .ends _ g, e .answered .long _ g), e .small _ g), omega arith, inv .1 .bounded, inv .1 .counted)
+    (omega (arith, inv .2), (omega (arith, e .answered .ends _ g, e .answered .long _ g), e .data-within _ g), omega arith, inv .1 .bounded, inv .1 .counted)
 
 add-at : tie.Need-add-at Inv-loop μ-loop
 add-at c =

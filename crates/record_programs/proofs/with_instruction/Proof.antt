@@ -18,6 +18,12 @@ shared-slice-read-kind-of c = search needs
 kind-of-requires : tie.Need-kind-of-requires
 kind-of-requires c κs = search needs
 
+add-size : tie.Need-add-size
+add-size c = search needs
+
+shared-slice-read-size : tie.Need-shared-slice-read-size
+shared-slice-read-size c = search needs
+
 array-write-processor : tie.Need-array-write-processor
 array-write-processor c = search needs
 
@@ -35,12 +41,6 @@ shared-slice-read-addresses c = search needs
 
 array-write-addresses : tie.Need-array-write-addresses
 array-write-addresses c = search needs
-
-add-sizes : tie.Need-add-sizes
-add-sizes c = search needs
-
-shared-slice-read-sizes : tie.Need-shared-slice-read-sizes
-shared-slice-read-sizes c = search needs
 
 array-write-sizes : tie.Need-array-write-sizes
 array-write-sizes c = search needs
@@ -71,10 +71,11 @@ add-copy-bytes c = search needs
 
 copy-bytes-requires : tie.Need-copy-bytes-requires
 copy-bytes-requires c κs =
-    let z : length (c .before .before .before .before .before .before .before .before .before .before .before .before .before .before .args .x .bytes) ≡ 640 = search needs in
+    let a = c .before .before .before .before .before .before .before .before .before .before .before .before .before .before .args in
+    let z : length (a .x .bytes) ≡ 640 = search needs in
     let m = c .before .more-length .ensures in
     let there = c .before .before .before .before .before .before .before .before .before .before .before .before .before .before .pre .1 .0 in
-    (omega arith, omega (arith, m .0, ap moreLength (c .before .before .before .before .before .kind-of .ensures)))
+    (omega arith, omega (arith, m .0, ap (λ (k : Kind). moreLength k (getD (a .part .now) (a .at + 2) 0)) (c .before .before .before .before .before .kind-of .ensures)))
 
 add-count : tie.Need-add-count
 add-count c = search needs
@@ -104,7 +105,7 @@ returns c =
     let kind = c .before .before .before .before .before .before .before .before .kind-of .ensures in
     let more = c .before .before .before .before .more-length .ensures .0 in
     instruction-more (a .processors) (a .x) (a .part .now) (a .at) (a .p) (a .x .operations + c .operation-count .result) (c .before .before .copy-bytes .last .0) sized
-    (omega arith) (c .before .before .before .before .before .before .before .before .before .before .before .before .before .before .before .before .before .pre .1) (c .before .before .before .before .before .before .before .before .before .before .before .before .before .before .before .before .before .pre .4) (c .before .before .copy-bytes .ensures ∙ ap (λ (m : ℕ). paste (a .x .bytes) (16 * a .x .count) (drop (a .at + 3) (a .part .now)) (8 + m)) (more ∙ ap moreLength kind)) (omega arith) (omega arith) n
+    (omega arith) (c .before .before .before .before .before .before .before .before .before .before .before .before .before .before .before .before .before .pre .1) (c .before .before .before .before .before .before .before .before .before .before .before .before .before .before .before .before .before .pre .4) (c .before .before .copy-bytes .ensures ∙ ap (λ (m : ℕ). paste (a .x .bytes) (16 * a .x .count) (drop (a .at + 3) (a .part .now)) (8 + m)) (more ∙ ap (λ (k : Kind). moreLength k (getD (a .part .now) (a .at + 2) 0)) kind)) (omega arith) (omega arith) n
 
 pub with-instruction-spec : {M : Type 1} → statement M
 with-instruction-spec =
@@ -112,14 +113,14 @@ with-instruction-spec =
     (tie.spec
     shared-slice-read-kind-of
     kind-of-requires
+    add-size
+    shared-slice-read-size
     array-write-processor
     shared-slice-read-kinds
     array-write-kinds
     add-addresses
     shared-slice-read-addresses
     array-write-addresses
-    add-sizes
-    shared-slice-read-sizes
     array-write-sizes
     cast-firsts
     mul-firsts

@@ -1,6 +1,5 @@
 -- Three entries and the sets of a level.
-use lib.ListN.{set}
-use mathlib.Core.Path.{refl, ap}
+use mathlib.Core.Path.{refl}
 use borrow.Author.Needs.{needs}
 use Rattle.search_walk.proofs.add_entry.Statement.{statement}
 use Rattle.search_walk.proofs.add_entry.Tie as tie
@@ -20,12 +19,6 @@ slice-write-places c = search needs
 write-requires : tie.Need-write-requires
 write-requires c κs = search needs
 
-mul-replaced : tie.Need-mul-replaced
-mul-replaced c = search needs
-
-slice-write-replaced : tie.Need-slice-write-replaced
-slice-write-replaced c = search needs
-
 add-level-requires : tie.Need-add-level-requires
 add-level-requires c κs = search needs
 
@@ -43,8 +36,8 @@ same-length-4 c = search needs
 
 returns : tie.Need-returns
 returns c =
-    let a = c .before .before .before .before .before .before .before .before .before .before .before .args in
-    (refl, refl, c .before .before .before .before .before .write .ensures .1, ap (set (a .replaced .now) (a .k)) (c .before .before .before .before .before .write .ensures .0), c .before .before .add-level .ensures)
+    let w = c .before .before .before .before .before .before .before .write .ensures in
+    (refl, refl, w .0, w .1, c .before .before .add-level .ensures)
 
 pub add-entry-spec : {M : Type 1} → statement M
 add-entry-spec =
@@ -55,8 +48,6 @@ add-entry-spec =
     cast-places
     slice-write-places
     write-requires
-    mul-replaced
-    slice-write-replaced
     add-level-requires
     same-length
     same-length-2

@@ -76,7 +76,7 @@ remove-entry-requires : tie.Need-remove-entry-requires Inv-loop μ-loop
 remove-entry-requires c κs =
     let at = c .before .before .before .before .before .before .before .before .before .before .loop in
     let below = last-below (at .inv) (at .k - 1) (getD (at .position) (at .k - 1) 0) (omega (arith, c .before .before .before .before .before .before .if3 .left)) refl (at .inv .from .whole) in
-    (omega (arith, at .inv .within, at .inv .from .room, at .inv .from .few, at .inv .from .whole), omega (arith, at .inv .within, at .inv .from .room, at .inv .from .few, c .remove-entry-arg6 .given .0), omega (arith, below, at .inv .from .few), at .inv .long, at .inv .wide)
+    (omega (arith, at .inv .within, at .inv .from .room, at .inv .from .few, at .inv .from .whole), omega (arith, at .inv .within, at .inv .from .room, at .inv .from .few), omega (arith, at .inv .within, at .inv .from .room, at .inv .from .few, c .remove-entry-arg6 .given .0), omega (arith, below, at .inv .from .few), at .inv .long, at .inv .wide)
 
 add-c-2 : tie.Need-add-c-2 Inv-loop μ-loop
 add-c-2 c =

@@ -1,12 +1,13 @@
 -- Each word of the row, one after the other.
-use Prim.Native.Nat.{ℕ, _/_}
+use Prim.Native.Nat.{ℕ, _+_, _*_, _/_}
 use native.Mathlib.Omega.{arith}
 use mathlib.Core.Path.{ap, _∙_}
 use mathlib.Core.List.{List, []}
 use lib.ListN.{getD}
+use lib.Dec.{eqb}
 use Rattle.record_decoded.specs.Kinds.{meant}
 use Rattle.relation_links.proofs.CompiledLaws.{few-processors, few-instructions}
-use Rattle.search_rows.proofs.RowLaws.{owner-few, row-is}
+use Rattle.search_rows.proofs.RowLaws.{wanted-first, wanted-next, owner-few, row-is}
 use borrow.Author.Needs.{needs}
 use Rattle.search_rows.proofs.row.row_of.Statement.{statement}
 use Rattle.search_rows.proofs.row.row_of.Tie as tie
@@ -91,36 +92,18 @@ bypasses-at-requires c κs =
     let s = c .before .before .before .before .before .before .before .before .before .before .before .before .before .before .before in
     (few-instructions [] (s .args .x) (s .pre .1 []), owner-few (s .pre .0 []) (s .pre .1 []) (s .args .o .0) (s .pre .2) (s .pre .3) (c .before .before .before .before .before .before .before .before .before .before .before .before .before .wide .result) (c .before .before .before .before .before .before .before .before .before .before .before .before .before .wide .ensures .0) .0)
 
-mul-covered : tie.Need-mul-covered
-mul-covered c =
-    let s = c .before .before .before .before .before .before .before .before .before .before .before .before .before .before .before .before in
-    let few = owner-few (s .pre .0 []) (s .pre .1 []) (s .args .o .0) (s .pre .2) (s .pre .3) (c .before .before .before .before .before .before .before .before .before .before .before .before .before .before .wide .result) (c .before .before .before .before .before .before .before .before .before .before .before .before .before .before .wide .ensures .0) .0 in
-    search needs
-
-element-copy-out-covered : tie.Need-element-copy-out-covered
-element-copy-out-covered c =
+words-at-requires : tie.Need-words-at-requires
+words-at-requires c κs =
     let s = c .before .before .before .before .before .before .before .before .before .before .before .before .before .before .before .before in
     owner-few (s .pre .0 []) (s .pre .1 []) (s .args .o .0) (s .pre .2) (s .pre .3) (c .before .before .before .before .before .before .before .before .before .before .before .before .before .before .wide .result) (c .before .before .before .before .before .before .before .before .before .before .before .before .before .before .wide .ensures .0) .0
 
-mul-saw : tie.Need-mul-saw
-mul-saw c =
-    let s = c .before .before .before .before .before .before .before .before .before .before .before .before .before .before .before .before .before in
-    let few = owner-few (s .pre .0 []) (s .pre .1 []) (s .args .o .0) (s .pre .2) (s .pre .3) (c .before .before .before .before .before .before .before .before .before .before .before .before .before .before .before .wide .result) (c .before .before .before .before .before .before .before .before .before .before .before .before .before .before .before .wide .ensures .0) .0 in
-    search needs
-
-element-copy-out-saw : tie.Need-element-copy-out-saw
-element-copy-out-saw c =
+words-at-requires-2 : tie.Need-words-at-requires-2
+words-at-requires-2 c κs =
     let s = c .before .before .before .before .before .before .before .before .before .before .before .before .before .before .before .before .before in
     owner-few (s .pre .0 []) (s .pre .1 []) (s .args .o .0) (s .pre .2) (s .pre .3) (c .before .before .before .before .before .before .before .before .before .before .before .before .before .before .before .wide .result) (c .before .before .before .before .before .before .before .before .before .before .before .before .before .before .before .wide .ensures .0) .0
 
-mul-wrote : tie.Need-mul-wrote
-mul-wrote c =
-    let s = c .before .before .before .before .before .before .before .before .before .before .before .before .before .before .before .before .before .before in
-    let few = owner-few (s .pre .0 []) (s .pre .1 []) (s .args .o .0) (s .pre .2) (s .pre .3) (c .before .before .before .before .before .before .before .before .before .before .before .before .before .before .before .before .wide .result) (c .before .before .before .before .before .before .before .before .before .before .before .before .before .before .before .before .wide .ensures .0) .0 in
-    search needs
-
-element-copy-out-wrote : tie.Need-element-copy-out-wrote
-element-copy-out-wrote c =
+words-at-requires-3 : tie.Need-words-at-requires-3
+words-at-requires-3 c κs =
     let s = c .before .before .before .before .before .before .before .before .before .before .before .before .before .before .before .before .before .before in
     owner-few (s .pre .0 []) (s .pre .1 []) (s .args .o .0) (s .pre .2) (s .pre .3) (c .before .before .before .before .before .before .before .before .before .before .before .before .before .before .before .before .wide .result) (c .before .before .before .before .before .before .before .before .before .before .before .before .before .before .before .before .wide .ensures .0) .0
 
@@ -145,14 +128,11 @@ wanted-requires-4 c κs = search needs
 visible-at-requires : tie.Need-visible-at-requires
 visible-at-requires c κs = (c .before .before .before .before .before .before .before .before .before .before .before .before .before .before .before .before .wide2 .ensures .1, omega (arith, c .before .before .before .before .before .before .before .before .before .before .before .before .before .before .wide3 .ensures .1))
 
-own-at-requires : tie.Need-own-at-requires
-own-at-requires c κs = (c .before .before .before .before .before .before .before .before .before .before .before .before .before .before .before .before .before .wide2 .ensures .1, omega (arith, c .before .before .before .before .before .before .before .before .before .before .before .before .before .before .before .wide3 .ensures .1))
-
 number-of-requires : tie.Need-number-of-requires
-number-of-requires c κs = (c .before .before .before .before .before .before .before .before .before .before .before .before .before .before .before .before .before .before .before .before .wide16 .ensures .1, omega (arith, c .before .before .before .before .before .before .before .before .before .before .before .before .before .before .before .before .before .before .wide2 .ensures .1))
+number-of-requires c κs = (c .before .before .before .before .before .before .before .before .before .before .before .before .before .before .before .before .before .before .before .wide16 .ensures .1, omega (arith, c .before .before .before .before .before .before .before .before .before .before .before .before .before .before .before .before .before .wide2 .ensures .1))
 
 number-of-requires-2 : tie.Need-number-of-requires-2
-number-of-requires-2 c κs = (c .before .before .before .before .before .before .before .before .before .before .before .before .before .before .before .before .before .before .before .before .before .wide16 .ensures .1, omega arith)
+number-of-requires-2 c κs = (c .before .before .before .before .before .before .before .before .before .before .before .before .before .before .before .before .before .before .before .before .wide16 .ensures .1, omega arith)
 
 number-or-own-requires : tie.Need-number-or-own-requires
 number-or-own-requires c κs = search needs
@@ -161,23 +141,26 @@ number-or-own-requires-2 : tie.Need-number-or-own-requires-2
 number-or-own-requires-2 c κs = search needs
 
 read-or-own-requires : tie.Need-read-or-own-requires
-read-or-own-requires c κs = c .before .before .before .before .before .before .before .before .before .before .before .before .before .before .before .before .before .before .before .before .before .before .before .before .wide16 .ensures .1
+read-or-own-requires c κs = c .before .before .before .before .before .before .before .before .before .before .before .before .before .before .before .before .before .before .before .before .before .before .before .wide16 .ensures .1
 
 returns : tie.Need-returns
 returns c =
-    let s = c .before .before .before .before .before .before .before .before .before .before .before .before .before .before .before .before .before .before .before .before .before .before .before .before .before .before .before .before .before .before .before .before in
+    let s = c .before .before .before .before .before .before .before .before .before .before .before .before .before .before .before .before .before .before .before .before .before .before .before .before .before .before .before .before .before .before .before in
     let g = s .args in
     let pre = s .pre in
     let lent = pre .3 in
-    let w = c .before .before .before .before .before .before .before .before .before .before .before .before .before .before .before .before .before .before .before .before .before .before .before .before .before .before .before .before .before .before .wide .result in
-    let few = owner-few (pre .0 []) (pre .1 []) (g .o .0) (pre .2) lent w (c .before .before .before .before .before .before .before .before .before .before .before .before .before .before .before .before .before .before .before .before .before .before .before .before .before .before .before .before .before .before .wide .ensures .0) .1 in
-    λ bytes words. row-is (pre .0 bytes) (pre .1 bytes) (g .o .0) (pre .2) lent _ w (c .before .before .before .before .before .before .before .before .before .before .before .before .before .before .before .before .before .before .before .before .before .before .before .before .before .wide16 .result) (c .before .before .before .before .before .before .before .before .before .before .before .before .before .before .before .before .before .before .before .before .before .before .before .wide2 .result) (c .before .before .before .before .before .before .before .before .before .before .before .before .before .before .before .before .before .before .before .before .before .wide3 .result / 8) (meant (c .before .before .before .before .before .before .before .before .before .before .before .before .before .before .before .before .before .before .before .before .before .before .before .before .before .before .before .kind-of .result))
-    (c .before .before .before .before .before .before .before .before .before .before .before .before .before .before .before .before .before .before .before .before .before .before .before .before .before .before .before .before .before .before .wide .ensures .0 ∙ ap (λ (own : List ℕ). getD own (g .o .0) 0) (lent .owners-are)) (c .before .before .before .before .before .before .before .before .before .before .before .before .before .before .before .before .before .before .before .before .before .before .before .before .before .wide16 .ensures .0) (c .before .before .before .before .before .before .before .before .before .before .before .before .before .before .before .before .before .before .before .before .before .before .before .before .before .before .before .kind-of .ensures) (c .before .before .before .before .before .before .before .before .before .before .before .before .before .before .before .before .before .before .before .before .before .before .before .wide2 .ensures .0)
-    (ap (λ (a : ℕ). a / 8) (c .before .before .before .before .before .before .before .before .before .before .before .before .before .before .before .before .before .before .before .before .before .wide3 .ensures .0))
-    (c .before .before .before .before .before .before .before .before .before .before .before .before .before .before .before .before .before .before .before .before .preds-at .ensures) (c .before .before .before .before .before .before .before .before .before .before .before .before .before .before .before .before .before .before .partners-at .ensures) (c .before .before .before .before .before .before .before .before .before .before .before .before .before .before .before .before .before .awaited-at .ensures) (c .before .before .before .before .before .before .before .before .before .before .before .before .before .before .before .before .bypasses-at .ensures)
-    (getD (g .bits .now) w 0) (getD (g .seen .now) w 0) (getD (g .written .now) w 0) (λ i l. pre .4 w i few l) (λ i l. words .seen-is w i few l) (λ i l. words .written-is w i few l)
-    (c .before .before .before .before .before .before .before .before .before .before .before .before .is-writing .result) (c .before .before .before .before .before .before .before .before .before .before .before .before .is-writing .ensures)
-    (c .before .before .before .before .before .before .before .before .before .before .before .wanted .ensures) (c .before .before .before .before .before .before .before .before .before .before .wanted2 .ensures) (c .before .before .before .before .before .before .before .before .before .word-of .ensures) (c .before .before .before .before .before .before .before .before .wanted3 .ensures) (c .before .before .before .before .before .before .before .wanted4 .ensures) (c .before .before .before .before .before .before .visible-at .ensures .0) (c .before .before .before .before .before .own-at .ensures .0)
+    let w = c .before .before .before .before .before .before .before .before .before .before .before .before .before .before .before .before .before .before .before .before .before .before .before .before .before .before .before .before .before .wide .result in
+    let few = owner-few (pre .0 []) (pre .1 []) (g .o .0) (pre .2) lent w (c .before .before .before .before .before .before .before .before .before .before .before .before .before .before .before .before .before .before .before .before .before .before .before .before .before .before .before .before .before .wide .ensures .0) .1 in
+    let writing = c .before .before .before .before .before .before .before .before .before .before .before .is-writing .result in
+    let reading = eqb (getD (g .roles .now) (g .o .0) 0) 0 in
+    λ bytes words. row-is (pre .0 bytes) (pre .1 bytes) (g .o .0) (pre .2) lent _ w (c .before .before .before .before .before .before .before .before .before .before .before .before .before .before .before .before .before .before .before .before .before .before .before .before .wide16 .result) (c .before .before .before .before .before .before .before .before .before .before .before .before .before .before .before .before .before .before .before .before .before .before .wide2 .result) (c .before .before .before .before .before .before .before .before .before .before .before .before .before .before .before .before .before .before .before .before .wide3 .result / 8) (meant (c .before .before .before .before .before .before .before .before .before .before .before .before .before .before .before .before .before .before .before .before .before .before .before .before .before .before .kind-of .result))
+    (c .before .before .before .before .before .before .before .before .before .before .before .before .before .before .before .before .before .before .before .before .before .before .before .before .before .before .before .before .before .wide .ensures .0 ∙ ap (λ (own : List ℕ). getD own (g .o .0) 0) (lent .owners-are)) (c .before .before .before .before .before .before .before .before .before .before .before .before .before .before .before .before .before .before .before .before .before .before .before .before .wide16 .ensures .0) (c .before .before .before .before .before .before .before .before .before .before .before .before .before .before .before .before .before .before .before .before .before .before .before .before .before .before .kind-of .ensures) (c .before .before .before .before .before .before .before .before .before .before .before .before .before .before .before .before .before .before .before .before .before .before .wide2 .ensures .0)
+    (ap (λ (a : ℕ). a / 8) (c .before .before .before .before .before .before .before .before .before .before .before .before .before .before .before .before .before .before .before .before .wide3 .ensures .0))
+    (c .before .before .before .before .before .before .before .before .before .before .before .before .before .before .before .before .before .before .before .preds-at .ensures) (c .before .before .before .before .before .before .before .before .before .before .before .before .before .before .before .before .before .partners-at .ensures) (c .before .before .before .before .before .before .before .before .before .before .before .before .before .before .before .before .awaited-at .ensures) (c .before .before .before .before .before .before .before .before .before .before .before .before .before .before .before .bypasses-at .ensures)
+    (λ j. getD (g .bits .now) (2 * w + j) 0) (λ j. getD (g .seen .now) (2 * w + j) 0) (λ j. getD (g .written .now) (2 * w + j) 0) (λ j i m l. pre .4 w j i few m l) (λ j i m l. words .seen-is w j i few m l) (λ j i m l. words .written-is w j i few m l)
+    (c .before .before .before .before .before .before .before .before .before .before .before .is-writing .result) (c .before .before .before .before .before .before .before .before .before .before .before .is-writing .ensures)
+    (wanted-first writing (c .before .before .before .before .before .before .before .before .before .before .before .before .before .before .words-at .ensures) (c .before .before .before .before .before .before .before .before .before .before .wanted .ensures)) (wanted-next writing (c .before .before .before .before .before .before .before .before .before .before .before .before .before .before .words-at .ensures) (c .before .before .before .before .before .before .before .before .before .before .wanted .ensures)) (wanted-first writing (c .before .before .before .before .before .before .before .before .before .before .before .before .words-at3 .ensures) (c .before .before .before .before .before .before .before .before .before .wanted2 .ensures)) (wanted-next writing (c .before .before .before .before .before .before .before .before .before .before .before .before .words-at3 .ensures) (c .before .before .before .before .before .before .before .before .before .wanted2 .ensures)) (c .before .before .before .before .before .before .before .before .word-of .ensures)
+    (wanted-first reading (c .before .before .before .before .before .before .before .before .before .before .before .before .before .before .words-at .ensures) (c .before .before .before .before .before .before .before .wanted3 .ensures)) (wanted-next reading (c .before .before .before .before .before .before .before .before .before .before .before .before .before .before .words-at .ensures) (c .before .before .before .before .before .before .before .wanted3 .ensures)) (wanted-first reading (c .before .before .before .before .before .before .before .before .before .before .before .before .before .words-at2 .ensures) (c .before .before .before .before .before .before .wanted4 .ensures)) (wanted-next reading (c .before .before .before .before .before .before .before .before .before .before .before .before .before .words-at2 .ensures) (c .before .before .before .before .before .before .wanted4 .ensures)) (c .before .before .before .before .before .visible-at .ensures .0)
     (c .before .before .before .before .number-of .result .0) (c .before .before .before .number-of2 .result .0) (c .before .before .before .before .number-of .ensures) (c .before .before .before .number-of2 .ensures)
     (c .before .before .number-or-own .ensures) (c .before .number-or-own2 .ensures) (c .read-or-own .ensures)
 
@@ -205,12 +188,9 @@ row-of-spec =
     partners-at-requires
     awaited-at-requires
     bypasses-at-requires
-    mul-covered
-    element-copy-out-covered
-    mul-saw
-    element-copy-out-saw
-    mul-wrote
-    element-copy-out-wrote
+    words-at-requires
+    words-at-requires-2
+    words-at-requires-3
     is-writing-requires
     wanted-requires
     wanted-requires-2
@@ -218,7 +198,6 @@ row-of-spec =
     wanted-requires-3
     wanted-requires-4
     visible-at-requires
-    own-at-requires
     number-of-requires
     number-of-requires-2
     number-or-own-requires

@@ -10,10 +10,10 @@ use Rattle.search_rows.proofs.table.put_row.Statement.{statement}
 use Rattle.search_rows.proofs.table.put_row.Tie as tie
 
 abbrev Inv-loop : tie.InvT-loop
-Inv-loop rows₀ row at f₀ rows f = (f ≤ 18) × (at + 18 ≤ 2304) × (length rows₀ ≡ 2304) × Put rows₀ row at f rows
+Inv-loop rows₀ row at f₀ rows f = (f ≤ 21) × (at + 21 ≤ 2688) × (length rows₀ ≡ 2688) × Put rows₀ row at f rows
 
 abbrev μ-loop : tie.MeasureT-loop
-μ-loop rows₀ row at f₀ rows f = 18 - f
+μ-loop rows₀ row at f₀ rows f = 21 - f
 
 mul-at : tie.Need-mul-at Inv-loop μ-loop
 mul-at c = search needs

@@ -1,32 +1,33 @@
--- Each turn makes the words of one instruction.
+-- Each turn makes the words of one line of one instruction.
 use Prim.Native.Nat.{ℕ, _+_, _*_, _-_, _/_, _%_, _≤_, _<_}
 use native.Mathlib.Omega.{arith}
 use mathlib.Core.Path.{_≡_, refl, ap, ap₂, _∙_}
-use mathlib.Core.Bool.{_&&_}
 use lib.ListN.{getD}
-use lib.Dec.{leb, ltb}
 use Rattle.base.specs.Bits.{bit}
 use Rattle.base.proofs.Entries.{Entered, entered-none, entered-more}
 use Rattle.model.specs.Execution.{Kind, kindOf}
 use Rattle.model.specs.Questions.{writtenFrom}
-use Rattle.search_rows.specs.Lent.{relativeBit}
+use Rattle.search_rows.specs.Lent.{coveredBit, relativeBit}
 use Rattle.search_rows.proofs.LineLaws.{covers-by, data-by}
 use borrow.Author.Needs.{needs}
 use Rattle.search_rows.proofs.words.access_words.Statement.{statement}
 use Rattle.search_rows.proofs.words.access_words.Tie as tie
 
 abbrev Inv-loop : tie.InvT-loop
-Inv-loop bytes count n kinds addresses sizes «data» bits₀ seen₀ written₀ w₀ bits seen written w =
-    (w ≤ n)
-    × Entered 40 0 (λ v a. (i : ℕ) → i < 64 → bit a i ≡ (leb (getD addresses v 0 % 8) (i / 8) && ltb (i / 8) (getD addresses v 0 % 8 + getD sizes v 0))) w bits
-    × Entered 40 0 (λ v a. (i : ℕ) → i < 64 → bit a i ≡ relativeBit bytes count «data» (16 * v + 0) (getD addresses v 0) (getD sizes v 0) i) w seen
-    × Entered 40 0 (λ v a. (i : ℕ) → i < 64 → bit a i ≡ relativeBit bytes count «data» (16 * v + writtenFrom (kindOf (getD kinds v 0))) (getD addresses v 0) (getD sizes v 0) i) w written
+Inv-loop bytes count n kinds addresses sizes «data» bits₀ seen₀ written₀ all j₀ bits seen written j =
+    (all ≡ 2 * n) × (j ≤ all)
+    × Entered 80 0 (λ v a. (i : ℕ) → i < 64 → bit a i ≡ coveredBit (getD addresses (v / 2) 0) (getD sizes (v / 2) 0) (64 * (v % 2) + i)) j bits
+    × Entered 80 0 (λ v a. (i : ℕ) → i < 64 → bit a i ≡ relativeBit bytes count «data» (16 * (v / 2) + 0) (getD addresses (v / 2) 0) (getD sizes (v / 2) 0) (64 * (v % 2) + i)) j seen
+    × Entered 80 0 (λ v a. (i : ℕ) → i < 64 → bit a i ≡ relativeBit bytes count «data» (16 * (v / 2) + writtenFrom (kindOf (getD kinds (v / 2) 0))) (getD addresses (v / 2) 0) (getD sizes (v / 2) 0) (64 * (v % 2) + i)) j written
 
 abbrev μ-loop : tie.MeasureT-loop
-μ-loop bytes count n kinds addresses sizes «data» bits₀ seen₀ written₀ w₀ bits seen written w = n - w
+μ-loop bytes count n kinds addresses sizes «data» bits₀ seen₀ written₀ all j₀ bits seen written j = all - j
+
+mul-all : tie.Need-mul-all Inv-loop μ-loop
+mul-all c = search needs
 
 loop-holds : tie.Need-loop-holds Inv-loop μ-loop
-loop-holds c = (omega arith, entered-none refl, entered-none refl, entered-none refl)
+loop-holds c = (refl, omega arith, entered-none refl, entered-none refl, entered-none refl)
 
 array-read-kind-of : tie.Need-array-read-kind-of Inv-loop μ-loop
 array-read-kind-of c = search needs
@@ -46,10 +47,19 @@ array-read-wide-2 c = search needs
 wide-requires-2 : tie.Need-wide-requires-2 Inv-loop μ-loop
 wide-requires-2 c κs = search needs
 
-bits-from-requires : tie.Need-bits-from-requires Inv-loop μ-loop
-bits-from-requires c κs =
-    let g = c .before .before .before .before .before .before .before .before .before .before .before .before in
-    omega (arith, g .pre .2 (c .before .before .before .before .loop .w) (c .before .before .before .loop-test .taken), c .before .wide .ensures .0, c .wide2 .ensures .0)
+line-words-requires : tie.Need-line-words-requires Inv-loop μ-loop
+line-words-requires c κs =
+    let s = c .before .before .before .before .before .before .before .before .before .before .before .before .before in
+    let j = c .before .before .before .before .before .loop .j in
+    let few : j / 2 < s .args .x .instructions .count = omega (arith, c .before .before .before .before .loop-test .taken) in
+    let inside = s .pre .2 (j / 2) few in (
+      s .pre .1,
+      omega (arith, few, s .pre .0),
+      c .before .before .wide .ensures .1,
+      omega (arith, inside .two-lines, c .before .before .wide .ensures .0, c .before .wide2 .ensures .0),
+      omega (arith, inside .few, c .before .wide2 .ensures .0, ap writtenFrom (c .before .before .before .kind-of .ensures)),
+      omega arith,
+    )
 
 mul-bits : tie.Need-mul-bits Inv-loop μ-loop
 mul-bits c = search needs
@@ -57,23 +67,11 @@ mul-bits c = search needs
 array-write-bits : tie.Need-array-write-bits Inv-loop μ-loop
 array-write-bits c = search needs
 
-relative-from-requires : tie.Need-relative-from-requires Inv-loop μ-loop
-relative-from-requires c κs =
-    let g = c .before .before .before .before .before .before .before .before .before .before .before .before .before .before in
-    let turn = c .before .before .before .before .before .loop-test .taken in
-    (g .pre .1, omega (arith, turn, g .pre .0), omega arith, c .before .before .before .wide .ensures .1, omega (arith, g .pre .2 (c .before .before .before .before .before .before .loop .w) turn, c .before .before .before .wide .ensures .0, c .before .before .wide2 .ensures .0))
-
 mul-seen : tie.Need-mul-seen Inv-loop μ-loop
 mul-seen c = search needs
 
 array-write-seen : tie.Need-array-write-seen Inv-loop μ-loop
 array-write-seen c = search needs
-
-written-value-requires : tie.Need-written-value-requires Inv-loop μ-loop
-written-value-requires c κs =
-    let g = c .before .before .before .before .before .before .before .before .before .before .before .before .before .before .before .before in
-    let turn = c .before .before .before .before .before .before .before .loop-test .taken in
-    ((g .pre .1, omega (arith, turn, g .pre .0), c .before .before .before .before .before .wide .ensures .1, omega (arith, g .pre .2 (c .before .before .before .before .before .before .before .before .loop .w) turn, c .before .before .before .before .before .wide .ensures .0, c .before .before .before .before .wide2 .ensures .0)), c .before .relative-from .ensures)
 
 mul-written : tie.Need-mul-written Inv-loop μ-loop
 mul-written c = search needs
@@ -81,40 +79,48 @@ mul-written c = search needs
 array-write-written : tie.Need-array-write-written Inv-loop μ-loop
 array-write-written c = search needs
 
-add-w : tie.Need-add-w Inv-loop μ-loop
-add-w c = search needs
+add-j : tie.Need-add-j Inv-loop μ-loop
+add-j c = omega (arith, c .before .before .before .before .before .loop-test .taken, c .before .before .before .before .before .before .before .before .before .before .before .before .before .before .pre .0)
 
 loop-less : tie.Need-loop-less Inv-loop μ-loop
-loop-less c = omega (arith, c .before .before .before .before .before .before .before .before .loop-test .taken)
+loop-less c = omega (arith, c .before .before .before .before .before .loop-test .taken)
 
 loop-again : tie.Need-loop-again Inv-loop μ-loop
 loop-again c =
-    let turn = c .before .before .before .before .before .before .before .before .loop-test .taken in
-    let w = c .before .before .before .before .before .before .before .before .before .loop .w in
-    let inv = c .before .before .before .before .before .before .before .before .before .loop .inv in
-    let g = c .before .before .before .before .before .before .before .before .before .before .before .before .before .before .before .before .before in
-    let address = c .before .before .before .before .before .before .wide .ensures .0 in
-    let size = c .before .before .before .before .before .wide2 .ensures .0 in
-    let here = relativeBit (g .args .bytes .now) (g .args .x .lines .count) (g .args .x .instructions .bytes) in (
+    let turn = c .before .before .before .before .before .loop-test .taken in
+    let j = c .before .before .before .before .before .before .loop .j in
+    let inv = c .before .before .before .before .before .before .loop .inv in
+    let g = c .before .before .before .before .before .before .before .before .before .before .before .before .before .before in
+    let address = c .before .before .before .wide .ensures .0 in
+    let size = c .before .before .wide2 .ensures .0 in
+    let made = c .line-words .ensures in
+    let here = relativeBit (g .args .bytes .now) (g .args .x .lines .count) (g .args .x .instructions .bytes) in
+    let room : j < 80 = omega (arith, turn, g .pre .0) in (
+      refl,
       omega (arith, turn),
-      entered-more (inv .1) (c .before .before .before .before .bits-from .result) (omega (arith, turn, g .pre .0))
-          (λ i l. c .before .before .before .before .bits-from .ensures i l ∙ ap₂ (λ (a s : ℕ). leb (a % 8) (i / 8) && ltb (i / 8) (a % 8 + s)) address size),
-      entered-more (inv .2) (c .before .before .relative-from .result) (omega (arith, turn, g .pre .0))
-          (λ i l. c .before .before .relative-from .ensures i l ∙ ap₂ (λ (a s : ℕ). here (16 * w + 0) a s i) address size),
-      entered-more (inv .3) (c .written-value .result) (omega (arith, turn, g .pre .0))
-          (λ i l. c .written-value .ensures i l ∙ ap (λ (k : Kind). here (16 * w + writtenFrom k) (c .before .before .before .before .before .before .wide .result) (c .before .before .before .before .before .wide2 .result) i) (c .before .before .before .before .before .before .before .kind-of .ensures)
-          ∙ ap₂ (λ (a s : ℕ). here (16 * w + writtenFrom (kindOf (getD (g .args .x .instructions .kinds) w 0))) a s i) address size),
+      entered-more (inv .2) (c .line-words .result .bits) room (λ i l. made .0 i l ∙ ap₂ (λ (a s : ℕ). coveredBit a s (64 * (j % 2) + i)) address size),
+      entered-more (inv .3) (c .line-words .result .seen) room (λ i l. made .1 i l ∙ ap₂ (λ (a s : ℕ). here (16 * (j / 2) + 0) a s (64 * (j % 2) + i)) address size),
+      entered-more (inv .4) (c .line-words .result .written) room
+          (λ i l. made .2 i l ∙ ap (λ (k : Kind). here (16 * (j / 2) + writtenFrom k) (c .before .before .before .wide .result) (c .before .before .wide2 .result) (64 * (j % 2) + i)) (c .before .before .before .before .kind-of .ensures)
+          ∙ ap₂ (λ (a s : ℕ). here (16 * (j / 2) + writtenFrom (kindOf (getD (g .args .x .instructions .kinds) (j / 2) 0))) a s (64 * (j % 2) + i)) address size),
     )
 
 returns : tie.Need-returns Inv-loop μ-loop
 returns c =
     let g = c .before .before .before .before .before .before .before .before .before .args in
-    let inv = c .before .loop .inv in (
-      λ w i h l. inv .1 .holds w (omega (arith, h, c .loop-test .left)) i l ∙ covers-by (g .x) w refl refl i,
+    let inv = c .before .loop .inv in
+    let is = g .x .instructions in
+    let here = relativeBit (g .bytes .now) (g .x .lines .count) (is .bytes) in (
+      λ w h i l few low. inv .2 .holds (2 * w + h) (omega (arith, l, few, inv .0, c .loop-test .left)) i low
+          ∙ ap₂ (λ (v k : ℕ). coveredBit (getD (is .addresses) v 0) (getD (is .sizes) v 0) (64 * k + i)) (let z : (2 * w + h) / 2 ≡ w = omega arith in z) (let z : (2 * w + h) % 2 ≡ h = omega arith in z)
+          ∙ covers-by (g .x) w refl refl (64 * h + i),
       record {
-        seen-is = λ w i h l. inv .2 .holds w (omega (arith, h, c .loop-test .left)) i l ∙ data-by (g .x) w refl refl (g .bytes .now) refl 0 i;
-        written-is = λ w i h l. inv .3 .holds w (omega (arith, h, c .loop-test .left)) i l
-            ∙ data-by (g .x) w refl refl (g .bytes .now) refl (writtenFrom (kindOf (getD (g .x .instructions .kinds) w 0))) i;
+        seen-is = λ w h i l few low. inv .3 .holds (2 * w + h) (omega (arith, l, few, inv .0, c .loop-test .left)) i low
+            ∙ ap₂ (λ (v k : ℕ). here (16 * v + 0) (getD (is .addresses) v 0) (getD (is .sizes) v 0) (64 * k + i)) (let z : (2 * w + h) / 2 ≡ w = omega arith in z) (let z : (2 * w + h) % 2 ≡ h = omega arith in z)
+            ∙ data-by (g .x) w refl refl (g .bytes .now) refl 0 (64 * h + i);
+        written-is = λ w h i l few low. inv .4 .holds (2 * w + h) (omega (arith, l, few, inv .0, c .loop-test .left)) i low
+            ∙ ap₂ (λ (v k : ℕ). here (16 * v + writtenFrom (kindOf (getD (is .kinds) v 0))) (getD (is .addresses) v 0) (getD (is .sizes) v 0) (64 * k + i)) (let z : (2 * w + h) / 2 ≡ w = omega arith in z) (let z : (2 * w + h) % 2 ≡ h = omega arith in z)
+            ∙ data-by (g .x) w refl refl (g .bytes .now) refl (writtenFrom (kindOf (getD (is .kinds) w 0))) (64 * h + i);
       },
     )
 
@@ -124,6 +130,7 @@ access-words-spec =
     (tie.spec
     Inv-loop
     μ-loop
+    mul-all
     loop-holds
     array-read-kind-of
     kind-of-requires
@@ -131,16 +138,14 @@ access-words-spec =
     wide-requires
     array-read-wide-2
     wide-requires-2
-    bits-from-requires
+    line-words-requires
     mul-bits
     array-write-bits
-    relative-from-requires
     mul-seen
     array-write-seen
-    written-value-requires
     mul-written
     array-write-written
-    add-w
+    add-j
     loop-less
     loop-again
     returns)
