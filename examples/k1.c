@@ -1,5 +1,5 @@
 /* K1 (one processor: st x=1, ld x sees 1) through every call; then a record with no instruction, one of UC memory with its
- * domains, and a lock that two processors take. k1.txt is what it prints. */
+ * domains, a lock that two processors take, and a load of sixteen bytes. k1.txt is what it prints. */
 #include "oglindesh.h"
 #include <stdio.h>
 
@@ -42,6 +42,23 @@ static const uint8_t lock[] = {
     1,                                /* one of the second: */
     5, 0, 1, 0, 0, 0, 0, 0, 0, 0, 0,  /* the same */
     1, 0, 0, 0, 0, 0, 0, 0,
+    0,                                /* no pair */
+};
+
+/* The first processor writes two words, the second with a release; the other loads both at once: st8 x=1, st8.rel y=2 beside
+ * ld16 x, which sees each half from its own store. The operations are 0 to 2 and 3 to 5 (LV, RV, RV) and 6 (R). */
+enum { LOAD = 2 + 2 * 9 + 1 + 2 * 11 + 1, LOWER_HALF = LOAD + 3, UPPER_LINE = 2 + 9 };
+static uint8_t halves[] = {
+    2,                                /* two processors */
+    2,                                /* two lines: */
+    0, 0, 0, 0, 0, 0, 0, 0, 0,        /* WB, eight initial bytes */
+    0, 0, 0, 0, 0, 0, 0, 0, 0,        /* the same, as both lines of the load have one attribute */
+    2,                                /* two instructions of the first: */
+    2, 0, 8, 1, 0, 0, 0, 0, 0, 0, 0,  /* st, address 0, size 8, writes 1 */
+    3, 8, 8, 2, 0, 0, 0, 0, 0, 0, 0,  /* st.rel, address 8, size 8, writes 2 */
+    1,                                /* one of the second: */
+    0, 0, 16, 1, 0, 0, 0, 0, 0, 0, 0, /* ld, address 0, size 16, sees 1 in the lower half */
+    2, 0, 0, 0, 0, 0, 0, 0,           /* and 2 in the upper half */
     0,                                /* no pair */
 };
 
@@ -112,5 +129,10 @@ int main(void)
     say_judgement(uncacheable, sizeof uncacheable, turned, sizeof turned);
     say_judgement(lock, sizeof lock, both_free, sizeof both_free);
     search_in_parts(lock, sizeof lock, 25);
+    search_in_parts(halves, sizeof halves, 100);
+    halves[LOWER_HALF] = 0; /* the upper half without the lower one, which was written before it */
+    search_in_parts(halves, sizeof halves, 100);
+    halves[UPPER_LINE] = 1; /* UC beside WB */
+    search_in_parts(halves, sizeof halves, 100);
     return 0;
 }

@@ -25,8 +25,8 @@ extern "C" {
 /* The version of what is declared here. MAJOR goes up where a caller has to change: a call, an answer's number, a question or the
  * layout of a record is another. MINOR goes up where something is added; while MAJOR is 0, for both. */
 #define OGLINDESH_VERSION_MAJOR 0
-#define OGLINDESH_VERSION_MINOR 4
-#define OGLINDESH_VERSION "0.4"
+#define OGLINDESH_VERSION_MINOR 5
+#define OGLINDESH_VERSION "0.5"
 
 /* What a refused call returns, less the number of the question. */
 #define OGLINDESH_REFUSED 256u
@@ -38,7 +38,7 @@ extern "C" {
 #define OGLINDESH_REFUSED_UNKNOWN_ATTRIBUTE (OGLINDESH_REFUSED + 4u)     /* is the attribute 0, 1, 2, 17, 33 or 49? */
 #define OGLINDESH_REFUSED_TOO_MANY_INSTRUCTIONS (OGLINDESH_REFUSED + 5u) /* are there at most 40 with this count added? */
 #define OGLINDESH_REFUSED_UNKNOWN_KIND (OGLINDESH_REFUSED + 6u)          /* is the kind 0 to 6? */
-#define OGLINDESH_REFUSED_WRONG_SIZE (OGLINDESH_REFUSED + 7u)            /* is the size 1, 2, 4 or 8 (mf: 0)? */
+#define OGLINDESH_REFUSED_WRONG_SIZE (OGLINDESH_REFUSED + 7u)            /* is it 1, 2, 4, 8, of a load or store 16 (mf: 0)? */
 #define OGLINDESH_REFUSED_WRONG_ADDRESS (OGLINDESH_REFUSED + 8u)         /* is it in the lines, a multiple of the size (mf: 0)? */
 #define OGLINDESH_REFUSED_DATA_PAST_SIZE (OGLINDESH_REFUSED + 9u)        /* are data bytes past the size zero? */
 /* No call returns OGLINDESH_REFUSED + 10: since 0.2 a record with no instruction passes, and the number stays unused. */
@@ -48,6 +48,7 @@ extern "C" {
 #define OGLINDESH_REFUSED_PAIRS_NOT_ASCENDING (OGLINDESH_REFUSED + 14u)  /* is the pair above the one before it? */
 #define OGLINDESH_REFUSED_BYTES_LEFT (OGLINDESH_REFUSED + 15u)           /* does the record end here? */
 #define OGLINDESH_REFUSED_SEMAPHORE_NOT_WB (OGLINDESH_REFUSED + 26u)     /* is a semaphore's line WB? asked after question 8 */
+#define OGLINDESH_REFUSED_LINES_DIFFER (OGLINDESH_REFUSED + 27u)         /* have both lines of 16 bytes one attribute? after 8 */
 /* Of an offered order: */
 #define OGLINDESH_REFUSED_ORDER_LENGTH (OGLINDESH_REFUSED + 16u) /* is its length N? */
 #define OGLINDESH_REFUSED_ORDER_ENTRY (OGLINDESH_REFUSED + 17u)  /* is each entry below N and different from those before it? */
@@ -59,18 +60,18 @@ extern "C" {
 /* Of a chain table: */
 #define OGLINDESH_REFUSED_SHORT_TABLE (OGLINDESH_REFUSED + 22u) /* has it N * N bytes or more? */
 
-/* No record is longer: 8 lines, 40 semaphores of one processor, 40 pairs, and the counts. */
-#define OGLINDESH_MAX_RECORD 916
+/* No record is longer: 8 lines, 40 instructions of 19 bytes (such as loads of 16) on 8 processors, 40 pairs, and the counts. */
+#define OGLINDESH_MAX_RECORD 923
 
 /* No record has more operations, so a buffer of this many bytes serves every search. */
 #define OGLINDESH_MAX_OPERATIONS 128
 
 /* The answer of a check. */
-#define OGLINDESH_PASSES 0u /* the record passes questions 1 to 15 and 26 */
+#define OGLINDESH_PASSES 0u /* the record passes questions 1 to 15, 26 and 27 */
 
 /* Whether a record is one.
- *   PASSES    it passes questions 1 to 15 and 26
- *   256 + q   question q refuses it, 1 to 15 or 26
+ *   PASSES    it passes questions 1 to 15, 26 and 27
+ *   256 + q   question q refuses it, 1 to 15, 26 or 27
  */
 uint32_t oglindesh_check(const uint8_t *record, size_t length);
 
@@ -80,7 +81,7 @@ uint32_t oglindesh_check(const uint8_t *record, size_t length);
 /* Judges an order of all N operations of a record, one byte an operation number.
  *   LEGAL     the order breaks no rule
  *   1 to 16   the lowest rule that it breaks
- *   256 + q   question q refuses it: 1 to 15 and 26 the record, 16 and 17 the order
+ *   256 + q   question q refuses it: 1 to 15, 26 and 27 the record, 16 and 17 the order
  */
 uint32_t oglindesh_judge(const uint8_t *record, size_t length, const uint8_t *order, size_t entries);
 
@@ -90,7 +91,7 @@ uint32_t oglindesh_judge(const uint8_t *record, size_t length, const uint8_t *or
 #define OGLINDESH_FORBIDDEN 2u  /* no legal order comes after the position given; from the empty one: there is none */
 
 struct oglindesh_search_reply {
-    uint32_t answer; /* one of the three, or 256 + q: 1 to 15 and 26 the record, 18 to 21 the buffer and the position */
+    uint32_t answer; /* one of the three, or 256 + q: 1 to 15, 26 and 27 the record, 18 to 21 the buffer and the position */
     uint32_t steps;  /* consistent prefixes that this call walked over; 0 where it is refused */
     size_t length;   /* of the position left, whose entries stand at the front of the buffer */
 };
@@ -113,7 +114,7 @@ struct oglindesh_search_reply oglindesh_search(const uint8_t *record, size_t len
  * (a 'before' that rules 1 to 8, 13 and 15 demand without an 'if') lead from operation a to operation b, else 0. Bytes behind
  * stay.
  *   DONE      it is written
- *   256 + q   question q refuses it: 1 to 15 and 26 the record, 22 the table's length
+ *   256 + q   question q refuses it: 1 to 15, 26 and 27 the record, 22 the table's length
  */
 uint32_t oglindesh_chains(const uint8_t *record, size_t length, uint8_t *table, size_t room);
 

@@ -3,6 +3,7 @@
 use crate::beside::{chain_table, check, judge, search};
 use crate::generate::{linked_order, order};
 use crate::random::Random;
+use crate::reference::counting::count;
 use crate::reference::record::Execution;
 use crate::reference::rules::JudgeAnswer;
 use crate::reference::search::{SearchAnswer, SearchReply};
@@ -35,6 +36,37 @@ impl Answers {
         let (reply, buffer) = self.search.last()?;
         (reply.answer == SearchAnswer::Allowed).then_some(buffer)
     }
+}
+
+/// Most states of one length that are counted.
+const MOST_STATES: usize = 1000;
+
+/// Holds a search that has ended to the count over sets; whether it was counted.
+pub fn count_agrees(e: &Execution, answers: &Answers) -> bool {
+    if answers.answer() == SearchAnswer::Unfinished {
+        return false;
+    }
+    let Some(counts) = count(e, MOST_STATES) else {
+        return false;
+    };
+    let allowed = answers.answer() == SearchAnswer::Allowed;
+    assert_eq!(counts.full > 0, allowed, "{e:?}");
+    let steps = answers.steps().into();
+    assert!(allowed || counts.prefixes == steps, "{e:?}");
+    true
+}
+
+/// Whether the load is local, in this order of all operations, for some byte that it reads: an own store's LV stands before its
+/// R, and R before that store's RV_own.
+pub fn is_local(e: &Execution, order: &[u8], load: usize) -> bool {
+    let place = |operation: usize| {
+        let mut entries = order.iter();
+        entries.position(|&entry| usize::from(entry) == operation)
+    };
+    let r = place(e.read(load));
+    let own = e.stores().filter(|&w| e.same_program(w, load));
+    own.filter(|&w| e.overlap(w, load))
+        .any(|w| place(e.local(w)) < r && r < place(e.remote_own(w)))
 }
 
 /// Steps of one record that are searched.

@@ -2,9 +2,9 @@
 
 use crate::proved;
 use crate::proved::{Judgement, Verdict};
-use crate::reference::record::{self, MAX_OPERATIONS};
+use crate::reference::record::{self, Execution, MAX_OPERATIONS};
 use crate::reference::rules::{self, JudgeAnswer};
-use crate::reference::search::{SearchAnswer, SearchReply};
+use crate::reference::search::{self as brute, SearchAnswer, SearchReply};
 use crate::reference::{self, chains, fast};
 use std::io::Write;
 use std::path::Path;
@@ -86,6 +86,16 @@ pub fn search(bytes: &[u8], buffer: &mut [u8], saved: usize, allowance: u32) -> 
         "record {bytes:?} from {saved}, {allowance} steps"
     );
     reply
+}
+
+/// What both searches say from the start, and the brute force with them, and the buffer that all of them left.
+pub fn search_from_start(e: &Execution, allowance: u32) -> (SearchReply, [u8; MAX_OPERATIONS]) {
+    let bytes = e.to_bytes();
+    let (mut buffer, mut other) = ([255; MAX_OPERATIONS], [255; MAX_OPERATIONS]);
+    let reply = search(&bytes, &mut buffer, 0, allowance);
+    let expected = brute::search(&bytes, &mut other, 0, allowance);
+    assert_eq!((reply, buffer), (expected, other), "{e:?}");
+    (reply, buffer)
 }
 
 /// What the verdict program, as it is built, writes for these pieces of its input, with a pause before each but the first.

@@ -1,8 +1,10 @@
 //! Single executions: those of the papers by their names, from the files in `executions/`, and one whose record is the longest.
 
 use crate::executions::source;
-use crate::reference::notation::{programs, sem_acq, sem_rel, uc};
-use crate::reference::record::{Execution, Instruction, MAX_INSTRUCTIONS, MAX_LINES, MAX_PAIRS};
+use crate::reference::notation::{access, programs, semaphore, uc};
+use crate::reference::record::{
+    Execution, Instruction, Kind, LINE_SIZE, MAX_LINES, MAX_PROCESSORS, MAX_SIZE,
+};
 
 /// The execution of this name in a file of `executions/`, on WB.
 pub fn named(file: &str, name: &str) -> Execution {
@@ -29,17 +31,38 @@ pub fn eight_processors() -> Execution {
     named("scope", "eight processors")
 }
 
-/// 40 semaphores of one processor, one after the other on each of eight lines, and 40 pairs. No record has more bytes.
+/// Eight processors with five instructions each, all of entries with nineteen bytes: four loads and a store of sixteen bytes,
+/// or in place of the store a semaphore; and 40 pairs. No record has more bytes. Two processors share each block of sixteen
+/// bytes, and every load sees what the instructions before it in the record have written there.
 pub fn longest() -> Execution {
-    let semaphore = |number: u8| {
-        let (line, seen) = (number % MAX_LINES as u8, number / MAX_LINES as u8);
-        match number % 3 {
-            0 => sem_rel(8 * line, seen, seen + 1),
-            _ => sem_acq(8 * line, seen, seen + 1),
+    let mut memory = [[0; MAX_SIZE]; MAX_LINES * LINE_SIZE / MAX_SIZE];
+    let mut program = |p: usize| -> Vec<Instruction> {
+        let block = p % memory.len();
+        let (address, bytes) = ((block * MAX_SIZE) as u8, &mut memory[block]);
+        let loads = [Kind::Load, Kind::LoadAcquire];
+        let before = loads.map(|kind| access(kind, address, &bytes[..]));
+        let written = [p as u8 + 1; MAX_SIZE];
+        let store = match p % 4 {
+            0 => access(Kind::Store, address, &written),
+            2 => access(Kind::StoreRelease, address, &written),
+            odd => {
+                let kind = [Kind::SemaphoreAcquire, Kind::SemaphoreRelease][odd / 2];
+                semaphore(kind, address + 8, &bytes[8..], &written[8..])
+            }
+        };
+        for at in store.addresses() {
+            bytes[at % MAX_SIZE] = store.byte_written(at);
         }
+        let after = [0; 2].map(|_| access(Kind::Load, address, &bytes[..]));
+        [&before[..], &[store], &after].concat()
     };
-    let all: Vec<Instruction> = (0..MAX_INSTRUCTIONS as u8).map(semaphore).collect();
-    let pairs = (0..MAX_PAIRS as u8).map(|number| (number / 20, 2 + number % 20));
-    let draft = programs(&[&all]);
-    pairs.fold(draft, |draft, (a, b)| draft.pair(a, b)).build()
+    let all: Vec<Vec<Instruction>> = (0..MAX_PROCESSORS).map(&mut program).collect();
+    let all: Vec<&[Instruction]> = all.iter().map(Vec::as_slice).collect();
+    let mut draft = programs(&all);
+    for p in 0..MAX_PROCESSORS as u8 {
+        for (earlier, later) in [(0, 1), (0, 2), (0, 3), (1, 4), (2, 4)] {
+            draft = draft.pair(5 * p + earlier, 5 * p + later);
+        }
+    }
+    draft.build()
 }

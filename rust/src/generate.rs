@@ -5,7 +5,7 @@ use crate::reference::notation::{access, semaphore, uc};
 use crate::reference::record::{
     is_dependence, Attribute, Execution, Instruction, Kind, Line, Role, DOMAINS, INSTRUCTION_ITEM,
     LINE_ITEM, LINE_SIZE, MAX_INSTRUCTIONS, MAX_LINES, MAX_OPERATIONS, MAX_PAIRS, MAX_PROCESSORS,
-    QUESTIONS, SEMAPHORE_MORE,
+    QUESTIONS,
 };
 use crate::reference::rules::{byte_read, links, lowest_broken, Settled};
 
@@ -55,46 +55,115 @@ const EMPTY_ONE_IN: usize = 10;
 /// One execution in so many may have semaphores.
 const SEMAPHORES_ONE_IN: usize = 3;
 
-/// A well-formed execution within the shape. Both allowed and forbidden ones are frequent; some have semaphores, some have no
-/// instruction.
+/// One execution in so many may have accesses of sixteen bytes.
+const SIXTEEN_ONE_IN: usize = 3;
+
+/// A well-formed execution within the shape. Both allowed and forbidden ones are frequent; some have semaphores, some accesses
+/// of sixteen bytes, some no instruction.
 pub fn execution(random: &mut Random, shape: &Shape) -> Execution {
+    if random.once_in(SIXTEEN_ONE_IN) {
+        return with_sixteen(random, shape);
+    }
     match random.once_in(SEMAPHORES_ONE_IN) {
         true => with_semaphores(random, shape),
         false => without_semaphores(random, shape),
     }
 }
 
-/// An execution of kinds 0 to 4, on lines of every attribute.
+/// An execution of kinds 0 to 4, on lines of every attribute; no access has sixteen bytes.
 pub fn without_semaphores(random: &mut Random, shape: &Shape) -> Execution {
-    let (attributes, fewest) = attributes(random);
-    let lines = lines(random, &attributes, fewest, shape.lines);
-    generated(random, shape, lines, &PLAIN_KINDS, (1, 9))
+    of_plain_kinds(random, shape, &SIZES_OF_A_LINE)
 }
 
-/// An execution of all kinds. Most of its lines are WB, the first always: there semaphores may lie. Often there are only two
-/// values, as with locks.
+/// An execution of all kinds, whose accesses lie on one line each.
 pub fn with_semaphores(random: &mut Random, shape: &Shape) -> Execution {
+    of_all_kinds(random, shape, &SIZES_OF_A_LINE)
+}
+
+/// An execution of all sizes and of kinds 0 to 4, or of all kinds; or one whose halves are written apart.
+pub fn with_sixteen(random: &mut Random, shape: &Shape) -> Execution {
+    match random.below(3) {
+        0 => of_all_kinds(random, shape, &ALL_SIZES),
+        1 => of_plain_kinds(random, shape, &ALL_SIZES),
+        _ => written_apart(random, shape),
+    }
+}
+
+/// Processors store to one half of sixteen bytes, to both or to a byte; the last one then loads both halves, behind its own stores
+/// if it has some. Within the shape, on lines of one attribute.
+fn written_apart(random: &mut Random, shape: &Shape) -> Execution {
+    let attribute = random.pick(&Attribute::all());
+    let lines = lines(random, &[attribute], 1, 2, &ALL_SIZES);
+    let processors = random.between(2, shape.processors.min(3));
+    let choice = |kinds, sizes| Choice {
+        kinds,
+        sizes,
+        values: (1, 9),
+    };
+    let writes = choice(&[Kind::Store, Kind::StoreRelease], &[1, 1, 8, 8, 8, 16]);
+    let reads = choice(&[Kind::Load, Kind::LoadAcquire], &[16]);
+    let mut chosen = Vec::new();
+    let mut room = shape.operations.min(MAX_TRIED) - 1;
+    while room > processors && chosen.len() < 4 {
+        let processor = random.below(processors);
+        let store = instruction(random, &writes, &lines);
+        chosen.push(Instruction { processor, ..store });
+        room -= 1 + processors;
+    }
+    chosen.sort_by_key(|store| store.processor);
+    for _ in 0..random.between(1, 1 + room.min(1)) {
+        let load = instruction(random, &reads, &lines);
+        let processor = processors - 1;
+        chosen.push(Instruction { processor, ..load });
+    }
+    let mut execution = Execution::new(processors, lines, chosen, Vec::new());
+    give_values(random, &mut execution);
+    execution
+}
+
+/// How often each size is picked where no access lies on two lines, and where some may.
+const SIZES_OF_A_LINE: [usize; 5] = [1, 1, 2, 4, 8];
+const ALL_SIZES: [usize; 9] = [1, 2, 4, 8, 8, 8, 16, 16, 16];
+
+/// What the instructions of an execution are picked from: kinds, sizes, the lowest and the highest byte that a store writes.
+struct Choice<'a> {
+    kinds: &'a [Kind],
+    sizes: &'a [usize],
+    values: (usize, usize),
+}
+
+fn of_plain_kinds(random: &mut Random, shape: &Shape, sizes: &[usize]) -> Execution {
+    let (attributes, fewest) = attributes(random);
+    let lines = lines(random, &attributes, fewest, shape.lines, sizes);
+    let choice = Choice {
+        kinds: &PLAIN_KINDS,
+        sizes,
+        values: (1, 9),
+    };
+    generated(random, shape, lines, &choice)
+}
+
+/// Most of the lines are WB, always the first, and the second where an access may lie on both: there semaphores may lie. Often
+/// there are only two values, as with locks.
+fn of_all_kinds(random: &mut Random, shape: &Shape, sizes: &[usize]) -> Execution {
     let mut attributes = vec![Attribute::WriteBack; random.pick(&[6, 30])];
     attributes.extend(Attribute::all());
-    let mut lines = lines(random, &attributes, 1, shape.lines);
-    lines[0].attribute = Attribute::WriteBack;
-    let values = random.pick(&[(0, 1), (1, 9)]);
-    generated(random, shape, lines, &ALL_KINDS, values)
+    let mut lines = lines(random, &attributes, 1, shape.lines, sizes);
+    for line in &mut lines[..lines_of_one(sizes)] {
+        line.attribute = Attribute::WriteBack;
+    }
+    let choice = Choice {
+        kinds: &ALL_KINDS,
+        sizes,
+        values: random.pick(&[(0, 1), (1, 9)]),
+    };
+    generated(random, shape, lines, &choice)
 }
 
-/// An execution on these lines, of kinds that are picked from these; stores write values from the lowest to the highest.
-fn generated(
-    random: &mut Random,
-    shape: &Shape,
-    lines: Vec<Line>,
-    kinds: &[Kind],
-    values: (usize, usize),
-) -> Execution {
+/// An execution on these lines.
+fn generated(random: &mut Random, shape: &Shape, lines: Vec<Line>, choice: &Choice) -> Execution {
     let processors = random.between(1, shape.processors);
-    let pick = |random: &mut Random| {
-        let kind = random.pick(kinds);
-        instruction(random, kind, &lines, values)
-    };
+    let pick = |random: &mut Random| instruction(random, choice, &lines);
     let instructions = instructions(random, shape, processors, pick);
     let mut execution = Execution::new(processors, lines, instructions, Vec::new());
     execution.pairs = pairs(random, &execution);
@@ -102,8 +171,27 @@ fn generated(
     execution
 }
 
-/// The smaller of two numbers of lines, so that more accesses share one.
-fn lines(random: &mut Random, attributes: &[Attribute], fewest: usize, most: usize) -> Vec<Line> {
+/// How many lines an access of the longest of these sizes lies on.
+fn lines_of_one(sizes: &[usize]) -> usize {
+    let lines = sizes.iter().map(|size| size.div_ceil(LINE_SIZE));
+    lines.max().unwrap_or(1)
+}
+
+/// The smaller of two numbers of lines, so that more accesses share one. Where some access may lie on two lines there are two
+/// or more, often no more than two, and mostly both have one attribute.
+fn lines(
+    random: &mut Random,
+    attributes: &[Attribute],
+    fewest: usize,
+    most: usize,
+    sizes: &[usize],
+) -> Vec<Line> {
+    let longest = lines_of_one(sizes);
+    let fewest = fewest.max(longest);
+    let most = match longest > 1 && random.once_in(2) {
+        true => fewest,
+        false => most,
+    };
     let count = random
         .between(fewest, most)
         .min(random.between(fewest, most));
@@ -112,7 +200,16 @@ fn lines(random: &mut Random, attributes: &[Attribute], fewest: usize, most: usi
         attribute: random.pick(attributes),
         initial: std::array::from_fn(|_| random.below(values) as u8),
     };
-    (0..count).map(line).collect()
+    let mut lines: Vec<Line> = (0..count).map(line).collect();
+    for together in lines.chunks_mut(longest) {
+        if !random.once_in(6) {
+            let attribute = together[0].attribute;
+            together
+                .iter_mut()
+                .for_each(|line| line.attribute = attribute);
+        }
+    }
+    lines
 }
 
 /// What the attributes of an execution's lines are picked from, all of them, or one, or UC in two domains; and the fewest lines.
@@ -192,31 +289,56 @@ fn instructions(
 }
 
 /// One instruction; most accesses begin at the start of a line, so that many overlap.
-fn instruction(
-    random: &mut Random,
-    kind: Kind,
-    lines: &[Line],
-    (lowest, highest): (usize, usize),
-) -> Instruction {
+fn instruction(random: &mut Random, choice: &Choice, lines: &[Line]) -> Instruction {
+    let kind = random.pick(choice.kinds);
     if kind == Kind::Fence {
         return access(kind, 0, &[]);
     }
-    let may_lie =
-        |line: &usize| !kind.is_semaphore() || lines[*line].attribute == Attribute::WriteBack;
-    let places: Vec<usize> = (0..lines.len()).filter(may_lie).collect();
-    let size = random.pick(&[1, 1, 2, 4, 8]);
+    let size = random.pick(choice.sizes);
+    let (size, places) = match places(kind, size, lines) {
+        places if places.is_empty() => (LINE_SIZE, self::places(kind, LINE_SIZE, lines)),
+        places => (size, places),
+    };
+    let slots = LINE_SIZE / size.min(LINE_SIZE);
     let slot = if random.once_in(3) {
-        random.below(LINE_SIZE / size)
+        random.below(slots)
     } else {
         0
     };
-    let address = (random.pick(&places) * LINE_SIZE + slot * size) as u8;
+    let address = (random.pick(&places) + slot * size) as u8;
+    let (lowest, highest) = choice.values;
     let byte = |_| random.between(lowest, highest) as u8;
     let data: Vec<u8> = (0..size).map(byte).collect();
     match kind.is_semaphore() {
         true => semaphore(kind, address, &data, &data),
         false => access(kind, address, &data),
     }
+}
+
+/// Where accesses of this kind and size may begin, at the start of a line: semaphores on WB, and no longer than a line; others
+/// on lines of one attribute.
+fn places(kind: Kind, size: usize, lines: &[Line]) -> Vec<usize> {
+    let length = size.max(LINE_SIZE);
+    let starts = (0..lines.len() * LINE_SIZE).step_by(length);
+    let fits = |start: &usize| {
+        let first = start / LINE_SIZE;
+        let Some(under) = lines.get(first..first + length / LINE_SIZE) else {
+            return false;
+        };
+        let attribute = under[0].attribute;
+        let alike = under.iter().all(|line| line.attribute == attribute);
+        let semaphore = attribute == Attribute::WriteBack && under.len() == 1;
+        alike && (semaphore || !kind.is_semaphore())
+    };
+    starts.filter(fits).collect()
+}
+
+/// Every access that question 8 passes on so many lines: address and size.
+pub fn accesses(lines: usize) -> Vec<(usize, usize)> {
+    let end = lines * LINE_SIZE;
+    let of_size = |size| (0..end).step_by(size).map(move |at| (at, size));
+    let all = [1, 2, 4, 8, 16].into_iter().flat_map(of_size);
+    all.filter(|(at, size)| at + size <= end).collect()
 }
 
 /// All pairs that question 13 passes, in question 14's order.
@@ -257,21 +379,22 @@ pub fn give_shown(random: &mut Random, execution: &mut Execution) {
     grow(random, execution, MAX_OPERATIONS, true);
 }
 
-/// The load saw one overlapping store, or none, over the initial bytes; rarely something else.
+/// On each of its lines the load saw one overlapping store, or none, over the initial bytes; rarely something else.
 fn guess_value(random: &mut Random, execution: &mut Execution, load: usize) {
     let mut sources: Vec<Option<usize>> = vec![None];
     let others = execution.stores().filter(|&w| w != load);
     let overlapping = others.filter(|&w| execution.overlap(w, load));
     sources.extend(overlapping.map(Some));
-    let source = random.pick(&sources).map(|w| execution.instructions[w]);
     let mut seen = execution.instructions[load];
-    for address in seen.addresses() {
-        let byte = match source {
+    let mut pick = || random.pick(&sources).map(|w| execution.instructions[w]);
+    let by_line: Vec<_> = seen.lines().map(|_| pick()).collect();
+    for (at, address) in seen.addresses().enumerate() {
+        let byte = match by_line[address / LINE_SIZE - seen.lines().start] {
             Some(store) if store.covers(address) => store.byte_written(address),
             _ if random.once_in(20) => random.byte(),
             _ => execution.initial(address),
         };
-        seen.seen[address - usize::from(seen.address)] = byte;
+        seen.seen[at] = byte;
     }
     execution.instructions[load] = seen;
 }
@@ -389,14 +512,18 @@ pub fn failing(random: &mut Random, question: u8) -> Vec<u8> {
         "no record fails question {question}"
     );
     loop {
-        let execution = execution(random, &Shape::SMALL);
+        let execution = match question {
+            27 => with_sixteen(random, &Shape::SMALL),
+            _ => execution(random, &Shape::SMALL),
+        };
         let failing = match question {
             1..=5 => Some(fail_count(random, &execution, question)),
             6..=9 => fail_instruction(random, &execution, question),
             11 => Some(fail_operation_count(random, execution)),
             12..=14 => fail_pairs(random, execution, question),
             15 => Some(lengthened(random, &execution)),
-            _ => fail_attribute(random, execution),
+            26 => fail_attribute(random, execution),
+            _ => fail_lines(random, execution),
         };
         if let Some(bytes) = failing {
             return bytes;
@@ -425,7 +552,7 @@ fn layout(execution: &Execution) -> Layout {
         let program = execution.instructions.iter();
         for instruction in program.filter(|i| i.processor == processor) {
             instructions.push(at);
-            at += item_length(instruction.kind);
+            at += INSTRUCTION_ITEM + instruction.kind.more_length(instruction.size);
         }
     }
     Layout {
@@ -433,14 +560,6 @@ fn layout(execution: &Execution) -> Layout {
         counts,
         instructions,
         pair_count: at,
-    }
-}
-
-/// Record bytes of an instruction.
-fn item_length(kind: Kind) -> usize {
-    match kind.is_semaphore() {
-        true => INSTRUCTION_ITEM + SEMAPHORE_MORE,
-        false => INSTRUCTION_ITEM,
     }
 }
 
@@ -455,7 +574,10 @@ fn fail_count(random: &mut Random, execution: &Execution, question: u8) -> Vec<u
     let layout = layout(execution);
     let mut bytes = execution.to_bytes();
     match question {
-        1 => bytes.truncate(random.below(bytes.len())),
+        1 => {
+            let cut = random.below(bytes.len());
+            bytes.truncate(cut_within_more(random, execution, &layout).unwrap_or(cut));
+        }
         2 => bytes[0] = byte_with(random, |p| !(1..=8).contains(&p)),
         3 => bytes[1] = byte_with(random, |count| !(1..=8).contains(&count)),
         4 => bytes[random.pick(&layout.lines)] = byte_with(random, |b| !ATTRIBUTES.contains(&b)),
@@ -467,6 +589,18 @@ fn fail_count(random: &mut Random, execution: &Execution, question: u8) -> Vec<u
     bytes
 }
 
+/// Once in two times, if there is an entry of more than eleven bytes: a length that cuts the others of one.
+fn cut_within_more(random: &mut Random, execution: &Execution, layout: &Layout) -> Option<usize> {
+    let entries = execution.instructions.iter().zip(&layout.instructions);
+    let more = |(i, &at): (&Instruction, &usize)| (at, i.kind.more_length(i.size));
+    let long: Vec<_> = entries.map(more).filter(|&(_, more)| more > 0).collect();
+    if long.is_empty() || random.once_in(2) {
+        return None;
+    }
+    let (at, more) = random.pick(&long);
+    Some(at + INSTRUCTION_ITEM + random.below(more))
+}
+
 /// Questions 6 to 9; none if there is no instruction, or the one chosen has no byte that question 9 is about.
 fn fail_instruction(random: &mut Random, execution: &Execution, question: u8) -> Option<Vec<u8>> {
     if execution.instructions.is_empty() {
@@ -476,27 +610,30 @@ fn fail_instruction(random: &mut Random, execution: &Execution, question: u8) ->
     let Instruction { kind, size, .. } = execution.instructions[number];
     let fence = kind == Kind::Fence;
     let end = execution.lines.len() * LINE_SIZE;
-    let good_size = |size: u8| {
-        if fence {
-            size == 0
-        } else {
-            [1, 2, 4, 8].contains(&size)
-        }
+    let good_size = |wanted: u8| match kind {
+        Kind::Fence => wanted == 0,
+        _ => [1, 2, 4, 8].contains(&wanted) || wanted == 16 && !kind.is_semaphore(),
     };
     let good_address = |address: u8| {
         if fence {
             address == 0
         } else {
-            address.is_multiple_of(size) && usize::from(address) < end
+            let within = usize::from(address) + usize::from(size) <= end;
+            address.is_multiple_of(size) && within
         }
     };
+    // Mostly a size that other kinds have, and an address in the lines or just past them, a multiple of half the size.
+    let near = !random.once_in(3);
+    let near_size = |wanted: u8| [0, 1, 2, 4, 8, 16].contains(&wanted);
+    let half = size.div_ceil(2).max(1);
+    let near_address = |b: u8| usize::from(b) < end + 16 && b.is_multiple_of(half);
     let mut bytes = execution.to_bytes();
     let at = layout(execution).instructions[number];
     match question {
         6 => bytes[at] = byte_with(random, |kind| kind > 6),
-        7 => bytes[at + 2] = byte_with(random, |size| !good_size(size)),
-        8 => bytes[at + 1] = byte_with(random, |address| !good_address(address)),
-        _ if size == 8 => return None,
+        7 => bytes[at + 2] = byte_with(random, |b| !good_size(b) && (!near || near_size(b))),
+        8 => bytes[at + 1] = byte_with(random, |b| !good_address(b) && (!near || near_address(b))),
+        _ if size >= 8 => return None,
         _ => {
             // Of a semaphore, what it saw or what it wrote.
             let values = if kind.is_semaphore() { 2 } else { 1 };
@@ -508,11 +645,11 @@ fn fail_instruction(random: &mut Random, execution: &Execution, question: u8) ->
     Some(bytes)
 }
 
-/// Question 26: an access becomes a semaphore and its line is not WB; none if there is no access. Question 9 comes after it, so
-/// the bytes past the size may be any.
+/// Question 26: an access becomes a semaphore and its line is not WB; none if there is no access of a semaphore's size.
+/// Question 9 comes after it, so the bytes past the size may be any.
 fn fail_attribute(random: &mut Random, mut execution: Execution) -> Option<Vec<u8>> {
     let mut accesses: Vec<usize> = (0..execution.instructions.len()).collect();
-    accesses.retain(|&i| execution.instructions[i].kind != Kind::Fence);
+    accesses.retain(|&i| (1..=8).contains(&execution.instructions[i].size));
     if accesses.is_empty() {
         return None;
     }
@@ -524,7 +661,31 @@ fn fail_attribute(random: &mut Random, mut execution: Execution) -> Option<Vec<u
     }
     let mut attributes = Attribute::all();
     attributes.retain(|&attribute| attribute != Attribute::WriteBack);
-    execution.lines[access.line()].attribute = random.pick(&attributes);
+    // The line beside it too, so that an access over both passes question 27.
+    let block = access.lines().start / 2;
+    let lines = execution.lines.chunks_mut(2).nth(block)?;
+    let attribute = random.pick(&attributes);
+    lines.iter_mut().for_each(|line| line.attribute = attribute);
+    Some(execution.to_bytes())
+}
+
+/// Question 27: one line of an access over two gets another attribute; none if there is no such access, or a semaphore lies
+/// there, which question 26 would refuse.
+fn fail_lines(random: &mut Random, mut execution: Execution) -> Option<Vec<u8>> {
+    let accesses = execution.instructions.iter().map(Instruction::lines);
+    let over_two: Vec<_> = accesses.filter(|lines| lines.len() > 1).flatten().collect();
+    if over_two.is_empty() {
+        return None;
+    }
+    let line = random.pick(&over_two);
+    let mut semaphores = execution.semaphores();
+    if semaphores.any(|s| execution.instructions[s].lines().contains(&line)) {
+        return None;
+    }
+    drop(semaphores);
+    let mut attributes = Attribute::all();
+    attributes.retain(|&attribute| attribute != execution.lines[line].attribute);
+    execution.lines[line].attribute = random.pick(&attributes);
     Some(execution.to_bytes())
 }
 

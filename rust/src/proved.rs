@@ -6,7 +6,7 @@
 //!
 //! | call | `Ok` says |
 //! |---|---|
-//! | [`check`] | the record passes questions 1 to 15 and 26 |
+//! | [`check`] | the record passes questions 1 to 15, 26 and 27 |
 //! | [`judge`] | whether an order is legal, else the lowest rule that it breaks |
 //! | [`search`] | allowed, with the first legal order; forbidden; or unfinished, with the position to go on from |
 //! | [`chain_table`] | the table is written: from which operation links lead to which |
@@ -63,6 +63,25 @@
 //! // The operations of A are 0 (R), 1 (LV), 2 and 3 (RV), those of B 4 to 7. RV of A to q stands between R and RV of B to q.
 //! assert_eq!(judge(&record, &[0, 4, 1, 2, 3, 5, 7, 6]), Ok(Judgement::Breaks(16)));
 //! ```
+//!
+//! A load of sixteen bytes that sees each half from another store, the upper one without the lower one; x and y are its lines:
+//!
+//! ```
+//! use oglindesh::executions;
+//! use oglindesh::proved::{check, search, Verdict};
+//!
+//! let text = "execution halves
+//!   programs st8 x=1; st8 y=2; ld16 x sees 0x00000000000000020000000000000000
+//!   allowed";
+//! let written = executions::read("halves", text).expect("it is well written");
+//! let mut record = written[0].execution.to_bytes();
+//! let reply = search(&record, &mut [0; 128], 0, 1_000);
+//! assert_eq!(reply.answer, Ok(Verdict::Allowed));
+//!
+//! // Both lines have one attribute. That of the upper line stands behind two counts and the nine bytes of the lower one.
+//! record[11] = 1;
+//! assert_eq!(check(&record), Err(27));
+//! ```
 
 mod exported {
     extern "C" {
@@ -100,7 +119,7 @@ mod exported {
 
 /// The numbers that the calls return, by the names that include/oglindesh.h has for them.
 pub mod numbers {
-    /// [`check`](super::check): the record passes questions 1 to 15 and 26.
+    /// [`check`](super::check): the record passes questions 1 to 15, 26 and 27.
     pub const PASSES: u32 = 0;
     /// [`judge`](super::judge): the order breaks no rule.
     pub const LEGAL: u32 = 0;
@@ -121,7 +140,7 @@ fn question(number: u32) -> u8 {
     u8::try_from(number - REFUSED).expect("a refusal is 256 + the number of a question")
 }
 
-/// Whether a record passes questions 1 to 15 and 26; if not, the number of the first that it fails.
+/// Whether a record passes questions 1 to 15, 26 and 27; if not, the number of the first that it fails.
 ///
 /// ```
 /// use oglindesh::proved::check;

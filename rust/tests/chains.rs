@@ -11,11 +11,11 @@ use oglindesh::reference::record::{read, Execution, QUESTIONS};
 use oglindesh::reference::rules::links;
 
 /// How many tables each question refused; place 0 counts those that were written.
-struct Tally([usize; 27]);
+struct Tally([usize; 28]);
 
 impl Tally {
     fn new() -> Tally {
-        Tally([0; 27])
+        Tally([0; 28])
     }
 
     /// Asks both for a table over random bytes of this length, and counts their answer. Past the marks, and all over at a

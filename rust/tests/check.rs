@@ -6,11 +6,11 @@ use oglindesh::random::Random;
 use oglindesh::reference::record::QUESTIONS;
 
 /// How many records each question refused; place 0 counts those that were accepted.
-struct Tally([usize; 27]);
+struct Tally([usize; 28]);
 
 impl Tally {
     fn new() -> Tally {
-        Tally([0; 27])
+        Tally([0; 28])
     }
 
     /// Asks both readers, and counts their answer. No record is refused with a number that is not asked.
@@ -24,7 +24,7 @@ impl Tally {
     /// The questions that refused a record.
     fn reached(&self) -> Vec<u8> {
         let refused = |&question: &u8| self.0[usize::from(question)] > 0;
-        (1..=26).filter(refused).collect()
+        (1..=27).filter(refused).collect()
     }
 }
 

@@ -5,7 +5,7 @@ use oglindesh::beside::{judge, search};
 use oglindesh::generate::{consistent_prefix, execution, Shape, ATTRIBUTES};
 use oglindesh::random::Random;
 use oglindesh::reference::notation::uc;
-use oglindesh::reference::record::{Execution, Kind, DOMAINS};
+use oglindesh::reference::record::{Execution, Instruction, Kind, DOMAINS};
 use oglindesh::reference::rules::{lowest_broken, JudgeAnswer};
 use oglindesh::reference::search::SearchAnswer;
 use std::collections::BTreeSet;
@@ -22,7 +22,7 @@ struct TwoAccesses {
 fn two_uncacheable(e: &Execution) -> Vec<TwoAccesses> {
     let domain = |i: usize| match e.instructions[i].kind {
         Kind::Fence => None,
-        _ => e.lines[e.instructions[i].line()].attribute.domain(),
+        _ => e.attribute(i).domain(),
     };
     let laters = 0..e.instructions.len();
     let all = laters.flat_map(|later| (0..later).map(move |earlier| (earlier, later)));
@@ -38,12 +38,19 @@ fn two_uncacheable(e: &Execution) -> Vec<TwoAccesses> {
         .collect()
 }
 
-/// The execution with its UC lines moved to other domains, one after another.
+/// The execution with its UC lines moved to other domains, one after another; those that one access lies on go together.
 fn moved(e: &Execution, mut to: impl FnMut() -> u8) -> Execution {
     let mut other = e.clone();
-    let lines = other.lines.iter_mut();
-    for line in lines.filter(|line| line.attribute.is_uncacheable()) {
-        line.attribute = uc(to());
+    for line in 0..e.lines.len() {
+        if !e.lines[line].attribute.is_uncacheable() {
+            continue;
+        }
+        let mut accesses = e.instructions.iter().map(Instruction::lines);
+        let over = accesses.find(|lines| lines.contains(&line) && lines.start < line);
+        other.lines[line].attribute = match over {
+            Some(lines) => other.lines[lines.start].attribute,
+            None => uc(to()),
+        };
     }
     other
 }
@@ -55,11 +62,12 @@ fn generated_records_have_both() {
     for shape in Shape::ALL {
         let (mut one, mut two) = (0, 0);
         let mut bytes = BTreeSet::new();
-        for _ in 0..1500 {
+        for _ in 0..2500 {
             let e = execution(&mut random, &shape);
             bytes.extend(e.lines.iter().map(|line| line.attribute.byte()));
             let mut all = two_uncacheable(&e);
-            all.retain(|t| e.instructions[t.earlier].line() != e.instructions[t.later].line());
+            let lines = |access: usize| e.instructions[access].lines();
+            all.retain(|t| lines(t.earlier) != lines(t.later));
             one += usize::from(all.iter().any(|t| t.one_domain));
             two += usize::from(all.iter().any(|t| !t.one_domain));
         }
@@ -116,7 +124,7 @@ fn only_shared_domains_matter() {
 fn one_domain_forbids_more() {
     let mut random = Random::new(64);
     let (mut tables, mut searches, mut prefixes) = (0, 0, 0);
-    for round in 0..3000 {
+    for round in 0..4500 {
         let e = execution(&mut random, &Shape::ALL[round % 3]);
         let one = moved(&e, || 3);
         let seed = random.next_u64();

@@ -44,6 +44,10 @@ fn document_02() {
         "initial bytes of their own addresses",
         "two device boards",
         "old records",
+        "halves of two stores",
+        "a store of sixteen bytes is not torn",
+        "one byte of a load is local",
+        "a semaphore under a store of sixteen bytes",
     ];
     run_source("requests", &names.map(str::to_string));
 }
@@ -117,7 +121,7 @@ fn said_after(programs: &str, line: &str) -> String {
 }
 
 /// Lines, and how the message about them begins.
-const WRONG_LINES: [(&str, &str); 51] = [
+const WRONG_LINES: [(&str, &str); 62] = [
     ("allowed", "f:1: `allowed` stands before any execution"),
     ("execution", "f:1: the execution has no name"),
     ("execution e", "f:1: the execution has no programs"),
@@ -156,7 +160,51 @@ const WRONG_LINES: [(&str, &str); 51] = [
     ),
     (
         "execution e\nprograms sem16.acq x sees 0 writes 1",
-        "f:2: `sem16.acq` is not an instruction",
+        "f:2: `sem16.acq` is not an instruction: write ld, ld.acq, st, st.rel, sem.acq, sem.rel or mf, with the size after ld, st or sem where it is not 1 (2, 4 or 8, of ld and st also 16)",
+    ),
+    (
+        "execution e\nprograms ld16.rel x sees 0",
+        "f:2: `ld16.rel` is not an instruction",
+    ),
+    (
+        "execution e\nprograms ld016 x sees 0",
+        "f:2: `ld016` is not an instruction",
+    ),
+    (
+        "execution e\nprograms st32 x=0",
+        "f:2: `st32` is not an instruction",
+    ),
+    (
+        "execution e\nprograms mf16",
+        "f:2: `mf16` is not an instruction",
+    ),
+    (
+        "execution e\nprograms ld8 x sees 0x10000000000000000",
+        "f:2: 0x10000000000000000 does not fit into size 8: write a smaller value, or the size after ld, st or sem",
+    ),
+    (
+        "execution e\nprograms st16 x=0x100000000000000000000000000000000",
+        "f:2: 0x100000000000000000000000000000000 does not fit into size 16: write a smaller value, no access is longer",
+    ),
+    (
+        "execution e\nprograms st x=340282366920938463463374607431768211456",
+        "f:2: 340282366920938463463374607431768211456 does not fit into size 1",
+    ),
+    (
+        "execution e\nprograms ld16 x sees 0x",
+        "f:2: `0x` is not a place",
+    ),
+    (
+        "execution e\nprograms ld16 y sees 0\nallowed",
+        "f:3: the execution fails question 8 (is the address a multiple of the size, within the lines?)",
+    ),
+    (
+        "execution e\nprograms ld16 x+1 sees 0\nallowed",
+        "f:3: the execution fails question 8",
+    ),
+    (
+        "execution e\nprograms ld 340282366920938463463374607431768211455+1 sees 0",
+        "f:2: address 340282366920938463463374607431768211455 is too large: write one up to 63",
     ),
     (
         "execution e\nprograms sem.acq x=1",
@@ -250,7 +298,7 @@ const WRONG_LINES: [(&str, &str); 51] = [
     ),
     (
         "execution e\nprograms none\nrefused 10",
-        "f:3: no record fails question 10: write one of 1, 2, 3, 4, 5, 6, 7, 8, 9, 11, 12, 13, 14, 15, 26",
+        "f:3: no record fails question 10: write one of 1, 2, 3, 4, 5, 6, 7, 8, 9, 11, 12, 13, 14, 15, 26, 27",
     ),
     (
         "execution e\nprograms none\nrefused 16",
@@ -457,6 +505,29 @@ fn wrong_claims_of_semaphores_are_told() {
     assert_told("sem.acq x sees 0 writes 1", &WRONG_OF_SEMAPHORES);
 }
 
+/// Claims about `ld16 x sees 0` that are not so, and a part of the message about them.
+const WRONG_OF_SIXTEEN: [(&str, &str); 5] = [
+    (
+        "allowed on WB or UC",
+        "f:3: e on WB, UC: check: Err(27), not Ok(()) as claimed",
+    ),
+    (
+        "allowed on x UC1, y UC2",
+        "f:3: e on UC1, UC2: check: Err(27), not Ok(()) as claimed",
+    ),
+    ("refused 27", "check: Ok(()), not Err(27)"),
+    (
+        "allowed on x WB",
+        "f:3: the line of address 8 has no attribute",
+    ),
+    ("operations 2", "number of operations: Ok(1), not Ok(2)"),
+];
+
+#[test]
+fn wrong_claims_of_sixteen_bytes_are_told() {
+    assert_told("ld16 x sees 0", &WRONG_OF_SIXTEEN);
+}
+
 /// What is said of each of these claims about the programs has the part that stands beside it.
 fn assert_told(programs: &str, claims: &[(&str, &str)]) {
     for (claim, part) in claims {
@@ -645,6 +716,46 @@ execution semaphores
         &[16, 0, 0, 0, 0, 0, 0, 0],
         &[5, 16, 8, 0, 0, 0, 0, 0, 0, 0, 0],
         &[8, 7, 6, 5, 4, 3, 2, 1],
+        &[0],
+    ];
+    assert_eq!(bytes, expected.concat());
+    assert_eq!(said(text), "nothing");
+}
+
+/// Loads and stores of sixteen bytes, of every kind; a value has up to 32 hexadecimal digits, or is a place.
+#[test]
+fn sixteen_bytes_may_be_written() {
+    let text = "
+execution sixteen bytes
+  initially x=1, y+7=2
+  programs  A: ld16 x sees 0x02000000000000000000000000000001, ld16.acq 0 sees 0x2000000000000000000000000000001;
+            st16 z=0x0f0e0d0c0b0a09080706050403020100, st16.rel 32=340282366920938463463374607431768211455,
+            st16 48=z
+  allowed   on x WC, y WC, z UC1, w UC1, 32 WB, 40 WB, 48 UC, 56 UC
+  refused 27 on x WC, y WB, z UC1, w UC1, 32 WB, 40 WB, 48 UC, 56 UC
+  refused 27 on x WC, y WC, z UC1, w UC2, 32 WB, 40 WB, 48 UC, 56 UC
+  operations 11
+  legal     order R(A) -> 1 -> 2 -> 4 -> 3 -> 5 -> 7 -> 6 -> 8 -> 10 -> 9
+";
+    let executions = read("f", text).unwrap_or_else(|wrong| panic!("{wrong}"));
+    let bytes = executions[0].execution.to_bytes();
+    let expected = [
+        &[2, 8][..],
+        &[0, 1, 0, 0, 0, 0, 0, 0, 0],
+        &[0, 0, 0, 0, 0, 0, 0, 0, 2],
+        &[0; 54],
+        &[2],
+        &[0, 0, 16, 1, 0, 0, 0, 0, 0, 0, 0],
+        &[0, 0, 0, 0, 0, 0, 0, 2],
+        &[1, 0, 16, 1, 0, 0, 0, 0, 0, 0, 0],
+        &[0, 0, 0, 0, 0, 0, 0, 2],
+        &[3],
+        &[2, 16, 16, 0, 1, 2, 3, 4, 5, 6, 7],
+        &[8, 9, 10, 11, 12, 13, 14, 15],
+        &[3, 32, 16, 255, 255, 255, 255, 255, 255, 255, 255],
+        &[255; 8],
+        &[2, 48, 16, 16, 0, 0, 0, 0, 0, 0, 0],
+        &[0; 8],
         &[0],
     ];
     assert_eq!(bytes, expected.concat());

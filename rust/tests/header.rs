@@ -2,8 +2,8 @@
 
 use oglindesh::proved::numbers;
 use oglindesh::reference::record::{
-    INSTRUCTION_ITEM, LINE_ITEM, MAX_INSTRUCTIONS, MAX_LINES, MAX_OPERATIONS, MAX_PAIRS, PAIR_ITEM,
-    QUESTIONS, SEMAPHORE_MORE,
+    DATA_ITEM, INSTRUCTION_ITEM, LINE_ITEM, MAX_INSTRUCTIONS, MAX_LINES, MAX_OPERATIONS, MAX_PAIRS,
+    MAX_PROCESSORS, PAIR_ITEM, QUESTIONS,
 };
 
 const HEADER: &str = include_str!("../../include/oglindesh.h");
@@ -11,11 +11,11 @@ const HEADER: &str = include_str!("../../include/oglindesh.h");
 /// What stands before every name of the header.
 const PREFIX: &str = "OGLINDESH_";
 
-/// The longest record: the count of processors, lines, one program of semaphores and pairs, each with its count. That none is
-/// longer is in tests/semaphores.rs.
+/// The longest record: the number of processors, the lines with their count, a count for each processor, instructions of nineteen
+/// bytes, and the pairs with their count. That none is longer is in tests/sixteen.rs.
 const MAX_RECORD: usize = 1
     + (1 + MAX_LINES * LINE_ITEM)
-    + (1 + MAX_INSTRUCTIONS * (INSTRUCTION_ITEM + SEMAPHORE_MORE))
+    + (MAX_PROCESSORS + MAX_INSTRUCTIONS * (INSTRUCTION_ITEM + DATA_ITEM))
     + (1 + MAX_PAIRS * PAIR_ITEM);
 
 /// Names and their numbers in the wrapper; the refusals and the version are apart.

@@ -1,39 +1,42 @@
 //! Initial bytes (document 02, P4): a load's byte is held to the initial byte of its own address, and to no other.
 
-use oglindesh::answers::{answers, Answers};
-use oglindesh::beside::{judge, search, verdict};
-use oglindesh::generate::{execution, give_shown, linked_order, Shape};
+use oglindesh::answers::{answers, count_agrees, Answers};
+use oglindesh::beside::{judge, search, search_from_start, verdict};
+use oglindesh::generate::{accesses, execution, give_shown, linked_order, Shape};
 use oglindesh::random::Random;
-use oglindesh::reference::counting::count;
 use oglindesh::reference::notation::access;
 use oglindesh::reference::record::{
     Attribute, Execution, Instruction, Kind, Line, Role, LINE_SIZE, MAX_LINES, MAX_PROCESSORS,
 };
 use oglindesh::reference::rules::{lowest_broken, JudgeAnswer};
-use oglindesh::reference::search as brute;
 use oglindesh::reference::search::{SearchAnswer, SearchReply};
 
 /// Addresses of eight lines.
 const ADDRESSES: usize = MAX_LINES * LINE_SIZE;
 
-/// The same execution with its lines elsewhere, in any order, and other lines between them; up to eight in all.
+/// The same execution with its lines elsewhere, in any order, and other lines between them; up to eight in all. Where an access
+/// lies on two lines, they go by twos, from an even one on.
 fn spread(random: &mut Random, e: &Execution) -> Execution {
-    let total = random.between(e.lines.len(), MAX_LINES);
+    let together = e.instructions.iter().map(|i| i.lines().len()).max();
+    let together = together.unwrap_or(1).max(1);
+    let groups = e.lines.len().div_ceil(together);
+    let total = random.between(groups, MAX_LINES / together);
     let mut places: Vec<usize> = (0..total).collect();
     random.shuffle(&mut places);
+    let place = |line: usize| places[line / together] * together + line % together;
     let attributes = Attribute::all();
     let spare = |_| Line {
         attribute: random.pick(&attributes),
         initial: std::array::from_fn(|_| random.byte()),
     };
-    let mut lines: Vec<Line> = (0..total).map(spare).collect();
-    for (line, &place) in e.lines.iter().zip(&places) {
-        lines[place] = *line;
+    let mut lines: Vec<Line> = (0..total * together).map(spare).collect();
+    for (number, line) in e.lines.iter().enumerate() {
+        lines[place(number)] = *line;
     }
     let mut instructions = e.instructions.clone();
     for access in instructions.iter_mut().filter(|i| i.kind != Kind::Fence) {
         let within = usize::from(access.address) % LINE_SIZE;
-        access.address = (places[access.line()] * LINE_SIZE + within) as u8;
+        access.address = (place(access.lines().start) * LINE_SIZE + within) as u8;
     }
     Execution::new(e.processors, lines, instructions, e.pairs.clone())
 }
@@ -77,18 +80,26 @@ fn mask(random: &mut Random) -> u8 {
     random.between(1, 255) as u8
 }
 
+/// The access with this size, at the multiple of it that it lies on.
+fn with_size(access: Instruction, size: u8) -> Instruction {
+    let mut other = access;
+    other.address = access.address / size * size;
+    other.size = size;
+    other
+}
+
 /// Makes some loads longer, but no semaphore. At its new bytes a load saw the initial byte or that of a store.
 fn lengthen(random: &mut Random, e: &mut Execution) {
     let mut loads: Vec<usize> = e.loads().collect();
     loads.retain(|&load| !e.instructions[load].kind.is_semaphore() && random.once_in(3));
     for load in loads {
         let short = e.instructions[load];
-        let size = random.pick(&[2, 4, 8]).max(short.size);
-        let mut long = Instruction {
-            address: short.address / size * size,
-            size,
-            ..short
-        };
+        let mut long = with_size(short, random.pick(&[2, 4, 8, 16]).max(short.size));
+        let alike = |lines: &[Line]| lines.iter().all(|l| l.attribute == lines[0].attribute);
+        if !e.lines.get(long.lines()).is_some_and(alike) {
+            // It would lie past the lines, or on two that differ.
+            long = with_size(short, 8);
+        }
         for (at, address) in long.addresses().enumerate() {
             let stores = e.stores().map(|store| e.instructions[store]);
             let stores: Vec<Instruction> = stores.filter(|w| w.covers(address)).collect();
@@ -226,34 +237,13 @@ fn stored_and_initial_bytes() {
         if e.operation_count() > Shape::SMALL.operations {
             continue;
         }
-        by_brute_force(&e, 40);
-        if answers.answer() == SearchAnswer::Unfinished {
-            continue;
-        }
-        if let Some(counts) = count(&e, 1000) {
-            let allowed = answers.answer() == SearchAnswer::Allowed;
-            assert_eq!(counts.full > 0, allowed, "{e:?}");
-            assert!(
-                allowed || counts.prefixes == answers.steps().into(),
-                "{e:?}"
-            );
-            counted += 1;
-        }
+        search_from_start(&e, 40);
+        counted += usize::from(count_agrees(&e, &answers));
     }
     println!("{tally:?}, {mixed} loads of both, {counted} counted");
     assert!(tally.all_above(300), "{tally:?}");
     assert!(mixed > 100, "{mixed} loads saw stored and initial bytes");
     assert!(counted > 1000, "{counted} counted");
-}
-
-/// The first steps are those of the brute force.
-fn by_brute_force(e: &Execution, allowance: u32) {
-    let bytes = e.to_bytes();
-    let mut buffer = vec![255; e.operation_count()];
-    let mut other = buffer.clone();
-    let reply = search(&bytes, &mut buffer, 0, allowance);
-    let expected = brute::search(&bytes, &mut other, 0, allowance);
-    assert_eq!((reply, buffer), (expected, other), "{e:?}");
 }
 
 /// A line's place among the lines says nothing but where its bytes stand in the record.
@@ -425,21 +415,12 @@ fn changed_at(record: &[u8], address: usize, mask: u8) -> Vec<u8> {
     other
 }
 
-/// Every access that question 8 passes on so many lines: address and size.
-fn accesses(lines: usize) -> Vec<(usize, usize)> {
-    let of_size = |size| {
-        (0..lines * LINE_SIZE)
-            .step_by(size)
-            .map(move |at| (at, size))
-    };
-    [1, 2, 4, 8].into_iter().flat_map(of_size).collect()
-}
-
-/// So many lines of any attributes, with the first of these initial bytes.
+/// So many lines of any attributes, always two of the same, with the first of these initial bytes.
 fn lines_of(random: &mut Random, count: usize, bytes: &[u8]) -> Vec<Line> {
     let attributes = Attribute::all();
+    let by_two: [Attribute; MAX_LINES / 2] = std::array::from_fn(|_| random.pick(&attributes));
     let line = |number: usize| Line {
-        attribute: random.pick(&attributes),
+        attribute: by_two[number / 2],
         initial: std::array::from_fn(|at| bytes[number * LINE_SIZE + at]),
     };
     (0..count).map(line).collect()
@@ -552,9 +533,9 @@ fn a_lone_load_and_every_initial_byte() {
             changed.try_each(&mut random, &e, &[vec![0]], |b| load.covers(b));
         }
     }
-    // On n lines there are 15 n loads, and four of them read each of the 8 n bytes.
-    let needed = 32 * (1..=MAX_LINES).sum::<usize>();
-    let all = 120 * (1..=MAX_LINES).map(|n| n * n).sum::<usize>();
+    // On n lines there are 15 n loads of one line, and four of them read each of the 8 n bytes; n / 2 loads read sixteen bytes.
+    let needed: usize = (1..=MAX_LINES).map(|n| 4 * 8 * n + 16 * (n / 2)).sum();
+    let all: usize = (1..=MAX_LINES).map(|n| 8 * n * (15 * n + n / 2)).sum();
     let others = all - needed;
     assert_eq!(changed, Changed { needed, others });
 }
@@ -570,9 +551,11 @@ fn a_load_among_stores_and_every_initial_byte() {
         let bytes = different_bytes(&mut random);
         let own = random.below(2);
         let load = load(&mut random, own, address, &bytes[address..address + size]);
-        // Addresses that differ in one bit; a load of a whole line leaves none in it.
-        let mut others = [size, 8, 16, 32].map(|bit| address ^ bit).to_vec();
-        others.dedup();
+        // Addresses that differ in one bit; a load of a whole line leaves none in it, one of two lines none in either.
+        let mut bits = vec![size, 8, 16, 32];
+        bits.retain(|&bit| bit >= size);
+        bits.dedup();
+        let mut others: Vec<usize> = bits.iter().map(|bit| address ^ bit).collect();
         random.shuffle(&mut others);
         let mut instructions = vec![load];
         for &other in &others[..2] {
@@ -593,10 +576,10 @@ fn a_load_among_stores_and_every_initial_byte() {
             .filter(|&&of| of == JudgeAnswer::Legal)
             .count();
     }
-    let needed = 4 * ADDRESSES;
-    let others = 120 * ADDRESSES - needed;
+    let needed = 5 * ADDRESSES;
+    let others = 124 * ADDRESSES - needed;
     assert_eq!(changed, Changed { needed, others });
-    println!("{legal} of 480 orders were legal");
+    println!("{legal} of 496 orders were legal");
     assert!(legal > 200, "{legal} orders were legal");
 }
 
@@ -635,8 +618,8 @@ fn a_load_over_an_own_store_and_every_initial_byte() {
         }
     }
     println!("{changed:?}, {under} under a store, {local} loads may be local");
-    // Each byte is one of four stores and of four loads.
-    assert_eq!(under, 16 * ADDRESSES);
+    // Each byte is one of five stores and of five loads.
+    assert_eq!(under, 25 * ADDRESSES);
     assert!(changed.needed > 500 && local > 100, "{changed:?}, {local}");
 }
 

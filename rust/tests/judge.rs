@@ -12,7 +12,7 @@ use oglindesh::reference::search::SearchAnswer;
 struct Tally {
     legal: usize,
     broken: [usize; 17],
-    refused: [usize; 27],
+    refused: [usize; 28],
 }
 
 impl Tally {
@@ -20,7 +20,7 @@ impl Tally {
         Tally {
             legal: 0,
             broken: [0; 17],
-            refused: [0; 27],
+            refused: [0; 28],
         }
     }
 
@@ -124,7 +124,7 @@ fn every_order(count: u8, order: &mut Vec<u8>, orders: &mut Vec<Vec<u8>>) {
 fn judges_agree_on_orders_of_any_length() {
     let mut random = Random::new(13);
     let mut tally = Tally::new();
-    let rounds = 40;
+    let rounds = 100;
     for _ in 0..rounds {
         let bytes = execution(&mut random, &Shape::SMALL).to_bytes();
         for length in [0, 1, 2, 127, 128, 129, 255, 256, 257, 1000] {

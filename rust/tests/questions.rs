@@ -1,5 +1,5 @@
 //! The questions 1 to 22 but 10, which is not asked, by hand: boundary values, and which of two comes first. Those of a semaphore
-//! are in tests/semaphores.rs.
+//! are in tests/semaphores.rs, those of sixteen bytes in tests/sixteen.rs.
 
 use oglindesh::beside;
 use oglindesh::generate::ATTRIBUTES;
@@ -101,7 +101,7 @@ fn instructions() {
     for kind in 7..=u8::MAX {
         assert_eq!(answer(&[(21, kind)]), 6);
     }
-    for size in [0, 3, 5, 6, 7, 16, 255] {
+    for size in [0, 3, 5, 6, 7, 9, 15, 17, 32, 255] {
         assert_eq!(answer(&[(23, size)]), 7);
     }
     assert_eq!(answer(&[(45, 1)]), 7);

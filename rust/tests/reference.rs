@@ -174,7 +174,7 @@ fn fast_is_brute_force_on_large_records() {
 fn judge_is_consistency_of_full_prefixes() {
     let mut random = Random::new(7);
     let mut broken = BTreeSet::new();
-    for _ in 0..4000 {
+    for _ in 0..8000 {
         let e = execution(&mut random, &Shape::SMALL);
         let bytes = e.to_bytes();
         let count = e.operation_count();

@@ -15,7 +15,7 @@ struct Tally {
     allowed: usize,
     forbidden: usize,
     unfinished: usize,
-    refused: [usize; 27],
+    refused: [usize; 28],
 }
 
 impl Tally {

@@ -1,20 +1,19 @@
 //! Semaphores (document 02, P3): their entry, questions, operations and rules by hand, the note's lemma 1, and generated records.
 
-use oglindesh::answers::answers;
-use oglindesh::beside::{chain_table, check, judge, proved_operation_count, search, verdict};
-use oglindesh::examples::longest;
+use oglindesh::answers::{answers, count_agrees, is_local};
+use oglindesh::beside::{
+    chain_table, check, judge, proved_operation_count, search, search_from_start, verdict,
+};
 use oglindesh::generate::{execution, with_semaphores, Shape, ATTRIBUTES};
 use oglindesh::random::Random;
-use oglindesh::reference::counting::count;
 use oglindesh::reference::notation::{
     acq, ld, mf, programs, rel, sem_acq, sem_rel, semaphore, st, Draft, X, Y,
 };
 use oglindesh::reference::record::{
-    read, Execution, Instruction, Kind, Role, INSTRUCTION_ITEM, LINE_ITEM, MAX_INSTRUCTIONS,
-    MAX_LINES, MAX_OPERATIONS, MAX_PAIRS, MAX_PROCESSORS, PAIR_ITEM, SEMAPHORE_MORE,
+    read, Execution, Instruction, Kind, Role, INSTRUCTION_ITEM, MAX_INSTRUCTIONS, MAX_LINES,
+    MAX_OPERATIONS, MAX_PROCESSORS,
 };
 use oglindesh::reference::rules::{links, lowest_broken, JudgeAnswer};
-use oglindesh::reference::search as brute;
 use oglindesh::reference::search::SearchAnswer;
 use std::collections::BTreeSet;
 
@@ -31,11 +30,7 @@ fn broken_by(draft: &Draft, prefix: &[u8]) -> Option<u8> {
 
 /// What the search from the start says, and after how many steps; by the brute force too.
 fn searched(draft: &Draft) -> (SearchAnswer, u32) {
-    let bytes = draft.clone().build().to_bytes();
-    let (mut buffer, mut other) = ([255; 128], [255; 128]);
-    let reply = search(&bytes, &mut buffer, 0, 100_000);
-    let expected = brute::search(&bytes, &mut other, 0, 100_000);
-    assert_eq!((reply, buffer), (expected, other), "record {bytes:?}");
+    let (reply, _) = search_from_start(&draft.clone().build(), 100_000);
     (reply.answer, reply.steps)
 }
 
@@ -220,30 +215,6 @@ fn how_many_fit() {
             assert_eq!(check(&record(fitting + 1)), Err(refused));
         }
     }
-}
-
-/// Its length; and whatever the processors, and however many instructions are semaphores, none is longer.
-#[test]
-fn the_longest_record() {
-    let bytes = longest().to_bytes();
-    assert_eq!(check(&bytes), Ok(()));
-    assert_eq!(bytes.len(), 916);
-    let order: Vec<u8> = (0..120).collect();
-    assert_eq!(judge(&bytes, &order), JudgeAnswer::Legal);
-    let mut lengths = Vec::new();
-    for processors in 1..=MAX_PROCESSORS {
-        for semaphores in 0..=MAX_INSTRUCTIONS {
-            let others = MAX_INSTRUCTIONS - semaphores;
-            if semaphores * (2 + processors) + others > MAX_OPERATIONS {
-                continue;
-            }
-            let lines = 1 + MAX_LINES * LINE_ITEM;
-            let entries = MAX_INSTRUCTIONS * INSTRUCTION_ITEM + semaphores * SEMAPHORE_MORE;
-            let pairs = 1 + MAX_PAIRS * PAIR_ITEM;
-            lengths.push(1 + lines + processors + entries + pairs);
-        }
-    }
-    assert_eq!(lengths.into_iter().max(), Some(bytes.len()));
 }
 
 // The rules.
@@ -601,19 +572,6 @@ fn generated_records_have_them() {
     }
 }
 
-/// Whether the semaphore is local, in this order of all operations, for some byte that it reads: an own store's LV stands before
-/// its R, and R before that store's RV_own.
-fn is_local(e: &Execution, order: &[u8], semaphore: usize) -> bool {
-    let place = |operation: usize| {
-        let mut entries = order.iter();
-        entries.position(|&entry| usize::from(entry) == operation)
-    };
-    let r = place(e.read(semaphore));
-    let own = e.stores().filter(|&w| e.same_program(w, semaphore));
-    own.filter(|&w| e.overlap(w, semaphore))
-        .any(|w| place(e.local(w)) < r && r < place(e.remote_own(w)))
-}
-
 /// What was counted over generated records.
 #[derive(Default, Debug)]
 struct Tally {
@@ -698,20 +656,8 @@ fn all_calls_and_lemma_1() {
         if !small {
             continue;
         }
-        let (mut buffer, mut other) = ([255; 128], [255; 128]);
-        let reply = search(&bytes, &mut buffer, 0, 40);
-        let expected = brute::search(&bytes, &mut other, 0, 40);
-        assert_eq!((reply, buffer), (expected, other), "{e:?}");
-        if answers.answer() == SearchAnswer::Unfinished {
-            continue;
-        }
-        if let Some(counts) = count(&e, 1000) {
-            let allowed = answers.answer() == SearchAnswer::Allowed;
-            assert_eq!(counts.full > 0, allowed, "{e:?}");
-            let steps = answers.steps().into();
-            assert!(allowed || counts.prefixes == steps, "{e:?}");
-            tally.counted += 1;
-        }
+        search_from_start(&e, 40);
+        tally.counted += usize::from(count_agrees(&e, &answers));
     }
     println!("{tally:?}");
     assert!(tally.allowed > 300 && tally.forbidden > 300, "{tally:?}");

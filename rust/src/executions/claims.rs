@@ -40,7 +40,7 @@ impl Draft {
         let word = words.take(WANTED)?;
         let count = execution.operation_count();
         if let Some(number) = number_of(word) {
-            if number < count as u64 {
+            if number < count as u128 {
                 return Ok(number as usize);
             }
             return words.fault(match count {

@@ -1,8 +1,10 @@
 //! An execution while it is read: places, initial bytes, programs and pairs.
 
-use super::words::{number_of, Fault, Words};
+use super::words::{is_number, number_of, Fault, Words};
 use crate::reference::notation;
-use crate::reference::record::{Attribute, Execution, Instruction, Kind, Line, LINE_SIZE};
+use crate::reference::record::{
+    Attribute, Execution, Instruction, Kind, Line, LINE_SIZE, MAX_SIZE,
+};
 
 /// Every count of a record is one byte.
 const MOST_COUNTED: usize = 255;
@@ -49,7 +51,7 @@ impl Draft {
         }
         loop {
             let name = words.take("the name of a place")?.to_string();
-            if number_of(&name).is_some() {
+            if is_number(&name) {
                 return words.fault(format!("`{name}` is a number: write the name of a place"));
             }
             words.expect("at")?;
@@ -80,7 +82,8 @@ impl Draft {
         let word = words.take("a place or an address")?;
         let mut address = self.address_of(words, word)?;
         if words.skip("+") {
-            address += words.number_to(255, "how many bytes further")?;
+            let further = words.number_to(255, "how many bytes further")?;
+            address = address.saturating_add(further.into());
         }
         match u8::try_from(address) {
             Ok(address) => Ok(address),
@@ -90,7 +93,7 @@ impl Draft {
         }
     }
 
-    fn address_of(&self, words: &Words, word: &str) -> Result<u64, Fault> {
+    fn address_of(&self, words: &Words, word: &str) -> Result<u128, Fault> {
         match self.find_address(word) {
             Some(address) => Ok(address),
             None => words.fault(format!(
@@ -101,9 +104,9 @@ impl Draft {
     }
 
     /// Where a place is, or the number itself.
-    pub(super) fn find_address(&self, word: &str) -> Option<u64> {
+    pub(super) fn find_address(&self, word: &str) -> Option<u128> {
         let place = self.places.iter().find(|(name, _)| name == word);
-        place.map_or_else(|| number_of(word), |&(_, at)| Some(u64::from(at)))
+        place.map_or_else(|| number_of(word), |&(_, at)| Some(at.into()))
     }
 
     pub(super) fn place_names(&self) -> String {
@@ -139,9 +142,9 @@ impl Draft {
         }
     }
 
-    /// `LA1: ld2.acq x sees 0x0077`, `sem.acq x sees 0 writes 1`.
+    /// `LA1: ld2.acq x sees 0x0077`, `st16 x=1`, `sem.acq x sees 0 writes 1`.
     fn read_instruction(&mut self, words: &mut Words) -> Result<Instruction, Fault> {
-        const WANTED: &str = "ld, ld.acq, st, st.rel, sem.acq, sem.rel or mf, with the size after ld, st or sem where it is not 1, or `none` for a processor with no instruction";
+        const WANTED: &str = "ld, ld.acq, st, st.rel, sem.acq, sem.rel or mf, with the size after ld, st or sem where it is not 1 (2, 4 or 8, of ld and st also 16), or `none` for a processor with no instruction";
         let mut word = words.take(WANTED)?;
         let mut label = None;
         if words.skip(":") {
@@ -150,7 +153,7 @@ impl Draft {
                     "there is an instruction `{word}` above: write another name"
                 ));
             }
-            if number_of(word).is_some() {
+            if is_number(word) {
                 return words.fault(format!("`{word}` is a number: write a name before the `:`"));
             }
             label = Some(word.to_string());
@@ -185,11 +188,21 @@ impl Draft {
     /// The `size` bytes of a number, or of a place's address, that they hold.
     fn read_value(&self, words: &mut Words, size: usize) -> Result<Vec<u8>, Fault> {
         let word = words.take("the value")?;
-        let value = self.address_of(words, word)?;
-        if size < 8 && value >> (8 * size) != 0 {
-            return words.fault(format!("{word} does not fit into size {size}: write a smaller value, or the size after ld, st or sem"));
+        let value = match self.find_address(word) {
+            None if is_number(word) => None,
+            _ => Some(self.address_of(words, word)?.to_le_bytes()),
+        };
+        let fits = |bytes: &[u8; MAX_SIZE]| bytes[size..].iter().all(|&byte| byte == 0);
+        let larger = match size < MAX_SIZE {
+            true => ", or the size after ld, st or sem",
+            false => ", no access is longer",
+        };
+        match value.filter(fits) {
+            Some(bytes) => Ok(bytes[..size].to_vec()),
+            None => words.fault(format!(
+                "{word} does not fit into size {size}: write a smaller value{larger}"
+            )),
         }
-        Ok(value.to_le_bytes()[..size].to_vec())
     }
 
     /// Instructions and operations are spoken of after the programs.
@@ -219,7 +232,7 @@ impl Draft {
         let word = words.take("the name or the number of an instruction")?;
         let labelled = |label: &Option<String>| label.as_deref() == Some(word);
         let found = self.labels.iter().position(labelled);
-        let number = number_of(word).map(|number| number as usize);
+        let number = number_of(word).and_then(|number| number.try_into().ok());
         let count = self.instructions.len();
         match found.or(number).filter(|&at| at < count) {
             Some(at) => Ok(at),
@@ -234,8 +247,7 @@ impl Draft {
 
     /// The lines that accesses and initial bytes lie on.
     pub(super) fn touched(&self) -> impl Iterator<Item = usize> + '_ {
-        let accesses = self.instructions.iter().filter(|i| i.size > 0);
-        let accesses = accesses.map(Instruction::line);
+        let accesses = self.instructions.iter().flat_map(Instruction::lines);
         let initial = self.initial.iter();
         accesses.chain(initial.map(|&(at, _)| usize::from(at) / LINE_SIZE))
     }
@@ -274,7 +286,7 @@ fn counted(words: &Words, count: usize) -> Result<(), Fault> {
     ))
 }
 
-/// `ld`, `ld2.acq` and so on; size 1 where none is written.
+/// `ld`, `ld2.acq`, `st16` and so on; size 1 where none is written. A kind has the sizes that question 7 passes.
 fn kind_and_size(word: &str) -> Option<(Kind, usize)> {
     if word == "mf" {
         return Some((Kind::Fence, 0));
@@ -294,11 +306,8 @@ fn kind_and_size(word: &str) -> Option<(Kind, usize)> {
         ("sem", Some("rel")) => Kind::SemaphoreRelease,
         _ => return None,
     };
-    match size {
-        "" | "1" => Some((kind, 1)),
-        "2" => Some((kind, 2)),
-        "4" => Some((kind, 4)),
-        "8" => Some((kind, 8)),
-        _ => None,
-    }
+    let written = if size.is_empty() { "1" } else { size };
+    let mut sizes = kind.sizes().iter();
+    let size = sizes.find(|size| size.to_string() == written)?;
+    Some((kind, usize::from(*size)))
 }

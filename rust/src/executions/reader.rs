@@ -112,7 +112,7 @@ fn asks(question: u8) -> &'static str {
         4 => "is the attribute WB, UC, WC, UC1, UC2 or UC3?",
         5 => "are there at most 40 instructions?",
         6 => "is the kind ld, ld.acq, st, st.rel, mf, sem.acq or sem.rel?",
-        7 => "is the size 1, 2, 4 or 8?",
+        7 => "is the size 1, 2, 4, 8 or, of ld and st, 16?",
         8 => "is the address a multiple of the size, within the lines?",
         9 => "are data bytes past the size zero?",
         11 => "are there at most 128 operations?",
@@ -121,6 +121,7 @@ fn asks(question: u8) -> &'static str {
         14 => "do the pairs ascend?",
         15 => "does the record end?",
         26 => "is the semaphore's line WB?",
+        27 => "have the two lines of an access the same attribute?",
         _ => panic!("no record fails question {question}"),
     }
 }

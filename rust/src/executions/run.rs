@@ -96,7 +96,7 @@ fn run(execution: &Execution, says: &Says, random: &mut Random) -> Result<Ran, S
     if let Says::Refused(question) = says {
         return refused(&bytes, *question).map(|()| ONE);
     }
-    // The reader passed it on WB; where a semaphore lies elsewhere it is refused.
+    // The reader passed it on WB; where a semaphore lies elsewhere it is refused, and where an access lies on two lines that differ.
     claimed("check", by_reference, Ok(()))?;
     chain_tables(execution, &bytes)?;
     match says {

@@ -156,7 +156,7 @@ impl<'a> Words<'a> {
     /// A number, decimal or after 0x hexadecimal.
     pub(super) fn number(&mut self, wanted: &str) -> Result<u64, Fault> {
         let word = self.take(wanted)?;
-        match number_of(word) {
+        match number_of(word).and_then(|number| number.try_into().ok()) {
             Some(number) => Ok(number),
             None => self.fault(format!("`{word}` is not a number: write {wanted}")),
         }
@@ -172,10 +172,22 @@ impl<'a> Words<'a> {
     }
 }
 
-/// A number, decimal or after 0x hexadecimal.
-pub(super) fn number_of(word: &str) -> Option<u64> {
+/// A number, decimal or after 0x hexadecimal, of at most sixteen bytes.
+pub(super) fn number_of(word: &str) -> Option<u128> {
+    let (digits, radix) = digits_of(word);
+    u128::from_str_radix(digits, radix).ok()
+}
+
+/// Whether the word is a number, however large.
+pub(super) fn is_number(word: &str) -> bool {
+    let (digits, radix) = digits_of(word);
+    !digits.is_empty() && digits.chars().all(|digit| digit.is_digit(radix))
+}
+
+/// The digits of a number, and what each counts.
+fn digits_of(word: &str) -> (&str, u32) {
     match word.strip_prefix("0x") {
-        Some(digits) => u64::from_str_radix(digits, 16).ok(),
-        None => word.parse().ok(),
+        Some(digits) => (digits, 16),
+        None => (word, 10),
     }
 }

@@ -1,14 +1,22 @@
 //! The search done incrementally: a candidate is tested by what one more operation can newly break.
 //!
 //! All sets are bit masks: of operations (`u128`, at most 128), of stores by instruction number
-//! (`u64`, at most 40), of the bits of a line's eight bytes (`u64`, lowest address in the low
-//! byte). The tests below assume that the prefix without the candidate is consistent.
+//! (`u64`, at most 40), of the bits of a block's sixteen bytes (`u128`, lowest address in the low
+//! byte). A block holds the addresses from a multiple of sixteen on, two lines; every access lies
+//! in one, since its address is a multiple of its size. The tests below assume that the prefix
+//! without the candidate is consistent.
 
 use super::record::{
-    Attribute, Execution, Instruction, Kind, Role, LINE_SIZE, MAX_INSTRUCTIONS, MAX_LINES,
-    MAX_OPERATIONS, MAX_PROCESSORS,
+    Attribute, Execution, Kind, Role, LINE_SIZE, MAX_INSTRUCTIONS, MAX_LINES, MAX_OPERATIONS,
+    MAX_PROCESSORS, MAX_SIZE,
 };
 use super::search::{accept_position, refusal, SearchAnswer, SearchReply};
+use std::ops::Range;
+
+/// Bytes of a block, as many as the longest access has.
+const BLOCK_SIZE: usize = MAX_SIZE;
+/// Most blocks of a record.
+const MAX_BLOCKS: usize = MAX_LINES * LINE_SIZE / BLOCK_SIZE;
 
 /// One search call, with the answers of [`super::search::search`].
 pub fn search(bytes: &[u8], buffer: &mut [u8], saved: usize, allowance: u32) -> SearchReply {
@@ -114,12 +122,12 @@ struct Step {
     effect: Effect,
     /// For RV of a st.rel to WB or of a sem.rel: all RV of that store.
     release: u128,
-    /// The processor whose view it reads or changes, and the line there.
+    /// The processor whose view it reads or changes, and the block there.
     processor: usize,
-    line: usize,
-    /// The bits of the access within the line, and the data there: seen for R, written for LV and RV.
-    mask: u64,
-    data: u64,
+    block: usize,
+    /// The bits of the access within the block, and the data there: seen for R, written for LV and RV.
+    mask: u128,
+    data: u128,
     /// For LV and RV: the store's number.
     store: usize,
     /// For R of a semaphore: it alone, by its number.
@@ -141,21 +149,22 @@ struct Tables {
     /// By operation: those that stand before it in every consistent prefix.
     predecessors: [u128; MAX_OPERATIONS],
     steps: Vec<Step>,
-    /// By store number: its bits within its line.
-    masks: [u64; MAX_INSTRUCTIONS],
-    /// By line: the initial bytes.
-    initial: [u64; MAX_LINES],
+    /// By store number: its bits within its block.
+    masks: [u128; MAX_INSTRUCTIONS],
+    /// By block: the initial bytes; zeros past the lines.
+    initial: [u128; MAX_BLOCKS],
 }
 
 impl Tables {
     fn of(e: &Execution) -> Tables {
         let mut masks = [0; MAX_INSTRUCTIONS];
         for store in e.stores() {
-            masks[store] = line_mask(&e.instructions[store]);
+            masks[store] = block_mask(e.instructions[store].addresses());
         }
-        let mut initial = [0; MAX_LINES];
-        for (word, line) in initial.iter_mut().zip(&e.lines) {
-            *word = u64::from_le_bytes(line.initial);
+        let mut initial = [0; MAX_BLOCKS];
+        for address in 0..e.lines.len() * LINE_SIZE {
+            let byte = u128::from(e.initial(address));
+            initial[address / BLOCK_SIZE] |= byte << block_shift(address);
         }
         let count = e.operation_count();
         Tables {
@@ -168,17 +177,14 @@ impl Tables {
     }
 }
 
-/// The bits that an access covers within its line; none for an mf.
-fn line_mask(instruction: &Instruction) -> u64 {
-    let ones = match instruction.size {
-        0 => 0,
-        size => u64::MAX >> (64 - 8 * u32::from(size)),
-    };
-    ones << line_shift(instruction)
+/// The bits of these bytes, of one block, within it.
+fn block_mask(addresses: Range<usize>) -> u128 {
+    addresses.fold(0, |mask, address| mask | 0xff << block_shift(address))
 }
 
-fn line_shift(instruction: &Instruction) -> u32 {
-    8 * (u32::from(instruction.address) % LINE_SIZE as u32)
+/// Where the bits of this byte begin in its block.
+fn block_shift(address: usize) -> usize {
+    8 * (address % BLOCK_SIZE)
 }
 
 /// Gathers one operation's step.
@@ -186,6 +192,7 @@ fn step_of(e: &Execution, operation: usize) -> Step {
     let number = e.operations[operation].instruction;
     let instruction = &e.instructions[number];
     let own = instruction.processor;
+    let address = usize::from(instruction.address);
     let data = match e.operations[operation].role {
         Role::Read => instruction.seen,
         Role::Local | Role::Remote(_) | Role::Fence => instruction.written,
@@ -194,9 +201,9 @@ fn step_of(e: &Execution, operation: usize) -> Step {
         effect: Effect::Nothing,
         release: 0,
         processor: own,
-        line: instruction.line(),
-        mask: line_mask(instruction),
-        data: u64::from_le_bytes(data) << line_shift(instruction),
+        block: address / BLOCK_SIZE,
+        mask: block_mask(instruction.addresses()),
+        data: u128::from_le_bytes(data) << block_shift(address),
         store: number,
         semaphore: 0,
         atomic: 0,
@@ -356,11 +363,11 @@ struct State<'a> {
     read: u64,
     /// By started store: the stores that coherence puts before it (rule 10).
     earlier: [u64; MAX_INSTRUCTIONS],
-    /// By processor and line: the latest byte of its own LV, and of the RV at it, else initial.
-    written: [[u64; MAX_LINES]; MAX_PROCESSORS],
-    visible: [[u64; MAX_LINES]; MAX_PROCESSORS],
+    /// By processor and block: the latest byte of its own LV, and of the RV at it, else initial.
+    written: [[u128; MAX_BLOCKS]; MAX_PROCESSORS],
+    visible: [[u128; MAX_BLOCKS]; MAX_PROCESSORS],
     /// By place: the word of `written` or `visible` that the operation there replaced.
-    replaced: [u64; MAX_OPERATIONS],
+    replaced: [u128; MAX_OPERATIONS],
 }
 
 impl<'a> State<'a> {
@@ -376,7 +383,7 @@ impl<'a> State<'a> {
             remote: [0; MAX_PROCESSORS],
             read: 0,
             earlier: [0; MAX_INSTRUCTIONS],
-            written: [[0; MAX_LINES]; MAX_PROCESSORS],
+            written: [[0; MAX_BLOCKS]; MAX_PROCESSORS],
             visible: [tables.initial; MAX_PROCESSORS],
             replaced: [0; MAX_OPERATIONS],
         }
@@ -462,8 +469,8 @@ impl<'a> State<'a> {
             own |= self.tables.masks[bypassing.trailing_zeros() as usize];
             bypassing &= bypassing - 1;
         }
-        let written = self.written[step.processor][step.line];
-        let visible = self.visible[step.processor][step.line];
+        let written = self.written[step.processor][step.block];
+        let visible = self.visible[step.processor][step.block];
         let seen = (written & own) | (visible & !own);
         (seen ^ step.data) & step.mask == 0
     }
@@ -477,13 +484,13 @@ impl<'a> State<'a> {
             Effect::Nothing => {}
             Effect::Read => self.read |= step.semaphore,
             Effect::Local => {
-                let word = &mut self.written[step.processor][step.line];
+                let word = &mut self.written[step.processor][step.block];
                 self.replaced[self.length] = *word;
                 *word = (*word & !step.mask) | step.data;
                 self.local |= 1 << step.store;
             }
             Effect::Remote => {
-                let word = &mut self.visible[step.processor][step.line];
+                let word = &mut self.visible[step.processor][step.block];
                 self.replaced[self.length] = *word;
                 *word = (*word & !step.mask) | step.data;
                 self.remote[step.processor] |= 1 << step.store;
@@ -513,11 +520,11 @@ impl<'a> State<'a> {
             Effect::Nothing => {}
             Effect::Read => self.read &= !step.semaphore,
             Effect::Local => {
-                self.written[step.processor][step.line] = self.replaced[self.length];
+                self.written[step.processor][step.block] = self.replaced[self.length];
                 self.local &= !(1 << step.store);
             }
             Effect::Remote => {
-                self.visible[step.processor][step.line] = self.replaced[self.length];
+                self.visible[step.processor][step.block] = self.replaced[self.length];
                 self.remote[step.processor] &= !(1 << step.store);
                 if step.own {
                     self.started &= !(1 << step.store);

@@ -1,6 +1,6 @@
 //! A small notation for executions: `programs(&[&[st(X, 1), rel(Y, 1)], &[acq(Y, 1), ld(X, 0)]]).build()`.
 
-use super::record::{Attribute, Execution, Instruction, Kind, Line, LINE_SIZE};
+use super::record::{value_of, Attribute, Execution, Instruction, Kind, Line, LINE_SIZE};
 
 /// Document 01's x.
 pub const X: u8 = 0;
@@ -66,14 +66,13 @@ pub fn semaphore(kind: Kind, address: u8, seen: &[u8], written: &[u8]) -> Instru
 }
 
 fn instruction(kind: Kind, address: u8, seen: &[u8], written: &[u8]) -> Instruction {
-    let eight = |bytes: &[u8]| std::array::from_fn(|at| bytes.get(at).copied().unwrap_or(0));
     Instruction {
         processor: 0,
         kind,
         address,
         size: seen.len().max(written.len()) as u8,
-        seen: eight(seen),
-        written: eight(written),
+        seen: value_of(seen),
+        written: value_of(written),
     }
 }
 
@@ -96,14 +95,14 @@ pub fn programs(programs: &[&[Instruction]]) -> Draft {
         };
         instructions.extend(program.iter().map(placed));
     }
-    let highest = instructions.iter().map(Instruction::line).max();
+    let needed = instructions.iter().map(|i| i.lines().end).max();
     let line = Line {
         attribute: Attribute::WriteBack,
         initial: [0; LINE_SIZE],
     };
     Draft {
         processors: programs.len(),
-        lines: vec![line; highest.unwrap_or(0) + 1],
+        lines: vec![line; needed.unwrap_or(0).max(1)],
         instructions,
         pairs: Vec::new(),
     }

@@ -3,8 +3,8 @@
 use std::ops::Range;
 
 /// The questions that are asked of a record. Question 10 asked for an instruction: since document 02's P2 a record needs none,
-/// and the number is unused. Question 26, of a semaphore, comes after 8 (P3).
-pub const QUESTIONS: [u8; 15] = [1, 2, 3, 4, 5, 6, 7, 8, 9, 11, 12, 13, 14, 15, 26];
+/// and the number is unused. Questions 26, of a semaphore (P3), and 27, of an access over two lines (P7), come after 8.
+pub const QUESTIONS: [u8; 16] = [1, 2, 3, 4, 5, 6, 7, 8, 9, 11, 12, 13, 14, 15, 26, 27];
 
 /// Most processors of a record (question 2).
 pub const MAX_PROCESSORS: usize = 8;
@@ -24,10 +24,12 @@ const PER_DOMAIN: u8 = 16;
 pub const LINE_SIZE: usize = 8;
 /// Record bytes of a line: attribute and initial bytes.
 pub const LINE_ITEM: usize = 9;
-/// Record bytes of an instruction: kind, address, size, data.
+/// Most bytes of an access (question 7).
+pub const MAX_SIZE: usize = 16;
+/// Record bytes of an instruction: kind, address, size, and the first eight of its data.
 pub const INSTRUCTION_ITEM: usize = 11;
-/// Record bytes that a semaphore has behind these: what it wrote.
-pub const SEMAPHORE_MORE: usize = 8;
+/// Data bytes among these, and those that stand behind them where there are more.
+pub const DATA_ITEM: usize = 8;
 /// Record bytes of a dependence pair.
 pub const PAIR_ITEM: usize = 2;
 
@@ -83,6 +85,27 @@ impl Kind {
     /// st.rel or sem.rel, which rules 3 and 12 are about.
     pub fn releases(self) -> bool {
         matches!(self, Kind::StoreRelease | Kind::SemaphoreRelease)
+    }
+
+    /// The sizes that question 7 passes. Since document 02's P7 a load or a store may have sixteen bytes, a semaphore not.
+    pub fn sizes(self) -> &'static [u8] {
+        match self {
+            Kind::Fence => &[0],
+            Kind::SemaphoreAcquire | Kind::SemaphoreRelease => &[1, 2, 4, 8],
+            Kind::Load | Kind::LoadAcquire | Kind::Store | Kind::StoreRelease => &[1, 2, 4, 8, 16],
+        }
+    }
+
+    /// Record bytes of one value of this size: eight, or as many as it has where that is more.
+    fn value_length(size: u8) -> usize {
+        usize::from(size).max(DATA_ITEM)
+    }
+
+    /// Record bytes that an instruction of this kind and size has behind its first eleven: what a semaphore wrote, and the upper
+    /// half of a value of sixteen bytes.
+    pub fn more_length(self, size: u8) -> usize {
+        let values = 1 + usize::from(self.is_semaphore());
+        values * Kind::value_length(size) - DATA_ITEM
     }
 
     /// The operations that an instruction of this kind gives, in their order.
@@ -177,9 +200,9 @@ pub struct Instruction {
     pub address: u8,
     pub size: u8,
     /// What a load saw, lowest address first; else zeros.
-    pub seen: [u8; 8],
+    pub seen: [u8; MAX_SIZE],
     /// What a store wrote, lowest address first; else zeros.
-    pub written: [u8; 8],
+    pub written: [u8; MAX_SIZE],
 }
 
 impl Instruction {
@@ -201,10 +224,12 @@ impl Instruction {
 
     /// The data bytes of the record: what a load saw, what a store wrote, of a semaphore the one behind the other.
     fn data(&self) -> Vec<u8> {
+        let length = Kind::value_length(self.size);
+        let (seen, written) = (&self.seen[..length], &self.written[..length]);
         match self.kind {
-            kind if kind.is_semaphore() => [self.seen, self.written].concat(),
-            kind if kind.is_load() => self.seen.to_vec(),
-            _ => self.written.to_vec(),
+            kind if kind.is_semaphore() => [seen, written].concat(),
+            kind if kind.is_load() => seen.to_vec(),
+            _ => written.to_vec(),
         }
     }
 
@@ -214,9 +239,10 @@ impl Instruction {
         first..first + usize::from(self.size)
     }
 
-    /// The line that the access lies on.
-    pub fn line(&self) -> usize {
-        usize::from(self.address) / LINE_SIZE
+    /// The lines that the access lies on, one or two; an mf lies on none.
+    pub fn lines(&self) -> Range<usize> {
+        let addresses = self.addresses();
+        addresses.start / LINE_SIZE..addresses.end.div_ceil(LINE_SIZE)
     }
 }
 
@@ -341,17 +367,20 @@ impl Execution {
         self.instructions[a].processor == self.instructions[b].processor
     }
 
-    /// Whether the two accesses share a byte; an mf shares none.
-    pub fn overlap(&self, a: usize, b: usize) -> bool {
-        let other = &self.instructions[b];
-        self.instructions[a]
-            .addresses()
-            .any(|address| other.covers(address))
+    /// The addresses of the bytes that the two accesses share; an mf shares none.
+    pub fn shared(&self, a: usize, b: usize) -> Range<usize> {
+        let [one, other] = [a, b].map(|access| self.instructions[access].addresses());
+        one.start.max(other.start)..one.end.min(other.end)
     }
 
-    /// The attribute of the line that an access lies on.
+    /// Whether the two accesses share a byte.
+    pub fn overlap(&self, a: usize, b: usize) -> bool {
+        !self.shared(a, b).is_empty()
+    }
+
+    /// The attribute of the lines that an access lies on; by question 27 two of them have the same.
     pub fn attribute(&self, access: usize) -> Attribute {
-        self.lines[self.instructions[access].line()].attribute
+        self.lines[self.instructions[access].lines().start].attribute
     }
 
     /// The initial byte at an address.
@@ -468,45 +497,56 @@ fn read_program(
     Ok(())
 }
 
-/// One instruction: question 1 of its first eleven bytes, 6 and 7; for a semaphore question 1 of the other eight; 8, 26 and 9.
+/// One instruction: question 1 of its first eleven bytes, 6 and 7; question 1 of the bytes that it has behind them; 8, 26, 27
+/// and 9.
 fn read_instruction(walk: &mut Walk, processor: usize, lines: &[Line]) -> Result<Instruction, u8> {
     let item = walk.item(INSTRUCTION_ITEM)?;
     let kind = Kind::of(item[0]).ok_or(6)?;
     let (address, size) = (item[1], item[2]);
-    let data = eight(&item[3..]);
-    let fence = kind == Kind::Fence;
-    let sizes: &[u8] = if fence { &[0] } else { &[1, 2, 4, 8] };
-    ask(7, sizes.contains(&size))?;
+    ask(7, kind.sizes().contains(&size))?;
+    let more = walk.item(kind.more_length(size))?;
+    let data = [&item[3..], more].concat();
     let (seen, written) = match kind {
-        kind if kind.is_semaphore() => (data, eight(walk.item(SEMAPHORE_MORE)?)),
-        kind if kind.is_load() => (data, [0; 8]),
-        _ => ([0; 8], data),
+        kind if kind.is_semaphore() => data.split_at(DATA_ITEM),
+        kind if kind.is_load() => (&data[..], &[][..]),
+        _ => (&[][..], &data[..]),
     };
     let instruction = Instruction {
         processor,
         kind,
         address,
         size,
-        seen,
-        written,
+        seen: value_of(seen),
+        written: value_of(written),
     };
-    if fence {
-        ask(8, address == 0)?;
-    } else {
-        let within = instruction.addresses().end <= lines.len() * LINE_SIZE;
-        ask(8, address.is_multiple_of(size) && within)?;
-    }
+    ask(8, lies_within(&instruction, lines.len()))?;
+    let under = &lines[instruction.lines()];
     if kind.is_semaphore() {
-        let attribute = lines[instruction.line()].attribute;
-        ask(26, attribute == Attribute::WriteBack)?;
+        let write_back = |line: &Line| line.attribute == Attribute::WriteBack;
+        ask(26, under.iter().all(write_back))?;
     }
-    let spare = [seen, written].map(|bytes| bytes[usize::from(size)..].to_vec());
+    ask(27, one_attribute(under))?;
+    let spare = [seen, written].map(|value| value.get(usize::from(size)..).unwrap_or(&[]));
     ask(9, spare.concat().iter().all(|&byte| byte == 0))?;
     Ok(instruction)
 }
 
-fn eight(bytes: &[u8]) -> [u8; 8] {
-    bytes.try_into().expect("eight data bytes")
+/// The bytes of a value, and zeros behind them.
+pub(crate) fn value_of(bytes: &[u8]) -> [u8; MAX_SIZE] {
+    std::array::from_fn(|at| bytes.get(at).copied().unwrap_or(0))
+}
+
+/// Question 8: the address is a multiple of the size, and all bytes are within so many lines; that of an mf is 0.
+fn lies_within(instruction: &Instruction, lines: usize) -> bool {
+    let Instruction { address, size, .. } = *instruction;
+    // A multiple of 0 is 0 alone.
+    address.is_multiple_of(size) && instruction.addresses().end <= lines * LINE_SIZE
+}
+
+/// Question 27: the lines that an access lies on have one attribute byte, so those of UC one domain.
+fn one_attribute(lines: &[Line]) -> bool {
+    let mut neighbours = lines.windows(2);
+    neighbours.all(|two| two[0].attribute.byte() == two[1].attribute.byte())
 }
 
 fn read_pairs(walk: &mut Walk, execution: &mut Execution) -> Result<(), u8> {

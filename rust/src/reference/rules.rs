@@ -271,7 +271,7 @@ fn breaks_coherence(e: &Execution, s: &Settled) -> bool {
     })
 }
 
-/// Rule 11, read value, for each byte of a load; settled once its R stands.
+/// Rule 11, read value, for each byte of a load, in the lower half as in the upper one; settled once its R stands.
 fn breaks_read_value(e: &Execution, s: &Settled) -> bool {
     e.loads().any(|load| {
         let instruction = &e.instructions[load];
