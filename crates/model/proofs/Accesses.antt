@@ -1,13 +1,14 @@
 -- The bytes of an access: an instruction of an accepted record accesses bytes of its line and the next; two accesses of one byte overlap.
-use Prim.Native.Nat.{ℕ, suc, _+_, _*_, _/_, _%_, _≤_, _<_}
+use Prim.Native.Nat.{ℕ, suc, _+_, _*_, _/_, _-_, _%_, _∣_, _≤_, _<_}
 use native.Mathlib.Omega.{arith}
-use mathlib.Core.Path.{_≡_, refl, sym, ap, _∙_}
-use mathlib.Core.Bool.{Bool, true, false, _||_}
-use mathlib.Core.List.{List, [], _∷_, List·Memᴰ, List·Memᴰ·head, List·Memᴰ·tail}
+use native.Mathlib.Nat.{dvd-of-mod-eq-zero, mod-eq-zero-of-dvd, dvd-mod-iff, dvd-sub, dvd-trans, le-of-dvd, pos-of-dvd-of-pos}
+use mathlib.Core.Path.{_≡_, refl, _∙_}
+use mathlib.Core.Bool.{Bool, true, _||_}
+use mathlib.Core.List.{List, [], _∷_, List·Memᴰ}
 use lib.ListN.{length}
 use lib.Dec.{eqb, leb, ltb}
 use borrow.Author.Tests.{eqb-true, le-leb, leb-true, lt-ltb, ltb-true}
-use Rattle.base.specs.Lists.{all, any, keep, member}
+use Rattle.base.specs.Lists.{all, any, keep}
 use Rattle.base.proofs.Bools.{split, and-parts, and-both}
 use Rattle.base.proofs.Lists.{any-member, all-member, member-in, in-count, of-count}
 use Rattle.model.specs.Execution.{Kind, ld, ld-acq, st, st-rel, mf, sem-acq, sem-rel, isFence, Instruction}
@@ -45,35 +46,36 @@ overlap-any i j = some-kept (accesses j) (addresses i)
 pub one-byte : (i j : Instruction) (a : ℕ) → accesses i a ≡ true → accesses j a ≡ true → overlap i j ≡ true
 one-byte i j a h k = overlap-any i j ∙ any-member (accesses j) (in-reach i a h) k
 
--- the sizes that question 7 passes; an access of such a size, at a multiple of it, lies on as many lines as there are eights of bytes
-abbrev powers : List ℕ
-powers = 1 ∷ 2 ∷ 4 ∷ 8 ∷ 16 ∷ []
+-- a size that question 7 passes divides the eight bytes of a line, or is divided by them
+abbrev eights : ℕ → Bool
+eights size = eqb (8 % size) 0 || eqb (size % 8) 0
 
-sizes : (k : Kind) (size : ℕ) → isFence k ≡ false → question7 k size ≡ true → List·Memᴰ size powers
-unfolding question7 all member
-sizes k size f q = member-in powers size (rw f at (all-member (λ n. isFence k || member powers n) (member-in (sizesOf k) size q) (each-size k)))
+sizes : (k : Kind) (size : ℕ) → question7 k size ≡ true → eights size ≡ true
+unfolding question7 all
+sizes k size q = all-member eights (member-in (sizesOf k) size q) (each k)
   where
-    each-size : (k : Kind) → all (λ n. isFence k || member powers n) (sizesOf k) ≡ true
-    each-size ld = refl
-    each-size ld-acq = refl
-    each-size st = refl
-    each-size st-rel = refl
-    each-size mf = refl
-    each-size sem-acq = refl
-    each-size sem-rel = refl
+    each : (k : Kind) → all eights (sizesOf k) ≡ true
+    each ld = refl
+    each ld-acq = refl
+    each st = refl
+    each st-rel = refl
+    each mf = refl
+    each sem-acq = refl
+    each sem-rel = refl
 
-multiple : (address size : ℕ) → List·Memᴰ size powers → address % size ≡ 0 → address % 8 + size ≤ 8 * ((size + 7) / 8)
-multiple address size m r = go m
-  where
-    at : (n : ℕ) → size ≡ n → address % n ≡ 0
-    at n e = ap (λ (s : ℕ). address % s) (sym e) ∙ r
-
-    go : List·Memᴰ size powers → address % 8 + size ≤ 8 * ((size + 7) / 8)
-    go (List·Memᴰ·head e) = omega arith
-    go (List·Memᴰ·tail (List·Memᴰ·head e)) = omega (arith, at 2 e)
-    go (List·Memᴰ·tail (List·Memᴰ·tail (List·Memᴰ·head e))) = omega (arith, at 4 e)
-    go (List·Memᴰ·tail (List·Memᴰ·tail (List·Memᴰ·tail (List·Memᴰ·head e)))) = omega (arith, at 8 e)
-    go (List·Memᴰ·tail (List·Memᴰ·tail (List·Memᴰ·tail (List·Memᴰ·tail (List·Memᴰ·head e))))) = omega (arith, at 16 e)
+-- an access of such a size, at a multiple of it, lies on as many lines as there are eights of bytes
+multiple : (address size : ℕ) → eights size ≡ true → address % size ≡ 0 → address % 8 + size ≤ 8 * ((size + 7) / 8)
+multiple address size e m =
+    split (eqb (8 % size) 0)
+    (λ h.
+    let in-line : size ∣ 8 = dvd-of-mod-eq-zero size (eqb-true (8 % size) 0 h) in
+    let before : size ∣ address % 8 = dvd-mod-iff size in-line .1 (dvd-of-mod-eq-zero size m) in
+    let left : size ≤ 8 - address % 8 = le-of-dvd (omega arith) (dvd-sub size in-line before) in
+    omega (arith, left, pos-of-dvd-of-pos in-line (omega arith)))
+    (λ h.
+    let whole : size % 8 ≡ 0 = eqb-true (size % 8) 0 (rw h at e) in
+    let before : address % 8 ≡ 0 = mod-eq-zero-of-dvd 8 (dvd-trans 8 (dvd-of-mod-eq-zero 8 whole) (dvd-of-mod-eq-zero size m)) in
+    omega (arith, whole, before))
 
 -- an instruction of an accepted record: what it wrote ends among sixteen data bytes, and it fits into its line and the next, within the lines
 pub record Fitting (lines : ℕ) (i : Instruction) : Type 0 where
@@ -93,7 +95,7 @@ on-lines {processors} {lines} {i} s =
     (omega arith, omega arith))
     (λ f.
     let (even, inside) = and-parts (eqb (i .address % i .size) 0) (leb (i .address + i .size) (8 * lines)) (rw f at (s .address-passed)) in (
-      multiple (i .address) (i .size) (sizes (i .kind) (i .size) f (s .size-passed)) (eqb-true (i .address % i .size) 0 even),
+      multiple (i .address) (i .size) (sizes (i .kind) (i .size) (s .size-passed)) (eqb-true (i .address % i .size) 0 even),
       leb-true (i .address + i .size) (8 * lines) inside,
     ))
 

@@ -42,11 +42,11 @@ compiles v = record { tabled = record { holds = refl; counts = refl }; marked = 
 -- what the row of operation o has of the data: one computed test each
 abbrev writtenTest : ℕ → ℕ → Bool
 writtenTest v o =
-    allBelow 2 (λ h. allBelow 64 (λ i. Bool·beq (bit (field (wideRows v) (10 + h) o) i) (writes (getD (k2Operations .roles) o 0) && dataBit (wide v) wideArrays (getD (k2Operations .owners) o 0) (writtenFrom (kindOf (getD (wideArrays .instructions .kinds) (getD (k2Operations .owners) o 0) 0))) (64 * h + i))))
+    allBelow 2 (λ h. allBelow 64 (λ i. Bool·beq (bit (field (wideRows v) (7 + h) o) i) (writes (getD (k2Operations .roles) o 0) && dataBit (wide v) wideArrays (getD (k2Operations .owners) o 0) (writtenFrom (kindOf (getD (wideArrays .instructions .kinds) (getD (k2Operations .owners) o 0) 0))) (64 * h + i))))
 
 abbrev seenTest : ℕ → ℕ → Bool
 seenTest v o =
-    allBelow 2 (λ h. allBelow 64 (λ i. Bool·beq (bit (field (wideRows v) (15 + h) o) i) (eqb (getD (k2Operations .roles) o 0) 0 && dataBit (wide v) wideArrays (getD (k2Operations .owners) o 0) 0 (64 * h + i))))
+    allBelow 2 (λ h. allBelow 64 (λ i. Bool·beq (bit (field (wideRows v) (16 + h) o) i) (eqb (getD (k2Operations .roles) o 0) 0 && dataBit (wide v) wideArrays (getD (k2Operations .owners) o 0) 0 (64 * h + i))))
 
 -- the row of each operation
 row-of : (v : ℕ) → allBelow 3 (writtenTest v) ≡ true → allBelow 3 (seenTest v) ≡ true

@@ -42,9 +42,9 @@ wideArrays = record {
 -- K2's rows with two bytes. What is written and what was seen (words 10 and 15) are 1 and 0, then 0: relative to 7 and v they are 6 and 7, then v.
 unfoldable pub wideRows : ℕ → List ℕ
 wideRows v =
-    (0 ∷ 0 ∷ 0 ∷ 0 ∷ 0 ∷ 0 ∷ 0 ∷ 0 ∷ 65535 ∷ 0 ∷ (6 + 256 * v) ∷ 0 ∷ 64 ∷ 0 ∷ 0 ∷ 0 ∷ 0 ∷ 0 ∷ 1 ∷ 0 ∷ 0 ∷ [])
-    ++ (1 ∷ 0 ∷ 0 ∷ 0 ∷ 0 ∷ 0 ∷ 0 ∷ 0 ∷ 65535 ∷ 0 ∷ (6 + 256 * v) ∷ 0 ∷ 0 ∷ 0 ∷ 0 ∷ 0 ∷ 0 ∷ 0 ∷ 1 ∷ 0 ∷ 1 ∷ [])
-    ++ (1 ∷ 0 ∷ 0 ∷ 0 ∷ 0 ∷ 0 ∷ 2 ∷ 0 ∷ 0 ∷ 0 ∷ 0 ∷ 0 ∷ 127 ∷ 65535 ∷ 0 ∷ (7 + 256 * v) ∷ 0 ∷ 0 ∷ 2 ∷ 2 ∷ 2 ∷ [])
+    (0 ∷ 0 ∷ 0 ∷ 0 ∷ 64 ∷ 65535 ∷ 0 ∷ (6 + 256 * v) ∷ 0 ∷ 0 ∷ 0 ∷ 0 ∷ 0 ∷ 0 ∷ 0 ∷ 0 ∷ 0 ∷ 0 ∷ 1 ∷ 0 ∷ 0 ∷ [])
+    ++ (0 ∷ 0 ∷ 0 ∷ 0 ∷ 0 ∷ 65535 ∷ 0 ∷ (6 + 256 * v) ∷ 0 ∷ 1 ∷ 0 ∷ 0 ∷ 0 ∷ 0 ∷ 0 ∷ 0 ∷ 0 ∷ 0 ∷ 1 ∷ 0 ∷ 1 ∷ [])
+    ++ (0 ∷ 0 ∷ 0 ∷ 0 ∷ 127 ∷ 0 ∷ 0 ∷ 0 ∷ 0 ∷ 1 ∷ 0 ∷ 2 ∷ 0 ∷ 0 ∷ 65535 ∷ 0 ∷ (7 + 256 * v) ∷ 0 ∷ 2 ∷ 2 ∷ 2 ∷ [])
     ++ replicate (tableLength - 3 * rowLength) 0
 
 abbrev pub theLoad : Instruction

@@ -1,17 +1,17 @@
 -- The questions of an instruction.
-use Prim.Native.Nat.{ℕ, _+_, _-_, _*_, _/_, _%_, _≤_, _<_}
+use Prim.Native.Nat.{ℕ, zero, suc, _+_, _-_, _*_, _/_, _%_, _≤_, _<_}
 use native.Mathlib.Omega.{arith}
 use mathlib.Core.Path.{_≡_, refl, sym, ap, ap₂, _∙_}
-use mathlib.Core.Bool.{Bool, true, false, not, cond, _&&_, or-false}
+use mathlib.Core.Bool.{Bool, true, false, cond, _&&_, _||_, or-false}
 use mathlib.Core.List.{List, [], _∷_, _++_}
 use lib.ListN.{length, getD, take, drop, length-take, length-drop, drop-of-length-le}
-use lib.Seq.{length-take-le, take-add, drop-drop}
+use lib.Seq.{length-take-le, take-suc, take-add, drop-drop}
 use lib.Dec.{eqb, leb, ltb}
 use borrow.Author.Tests.{le-leb, lt-leb, ltb-true, eq-eqb, ne-eqb}
 use Rattle.base.specs.Lists.{all, member}
-use Rattle.base.specs.Below.{allBelow}
+use Rattle.base.specs.Below.{allBelow, anyBelow}
 use Rattle.base.proofs.Bools.{eqb-swap}
-use Rattle.base.proofs.Lists.{member-in, all-member}
+use Rattle.base.proofs.Lists.{member-in, member-append, all-member}
 use Rattle.base.proofs.Tests.{all-same, all-elements, all-count}
 use Rattle.model.specs.Execution.{Kind, Attribute, WC, attributeNumber, Instruction, kindOf, isFence, isSemaphore, linesFrom}
 use Rattle.model.proofs.Accepted.{data-within}
@@ -22,42 +22,34 @@ use Rattle.record_decoded.specs.Steps.{EntryAnswered}
 use Rattle.record_decoded.proofs.DataBytes.{drop-take, take-less}
 use Rattle.record_decoded.proofs.Items.{item-short, item-there, item-first, item-byte, fails, passes}
 
+-- the sizes of an access, by whether it is a semaphore; `sizes false` is the table of the code
+abbrev pub sizes : Bool → List ℕ
+sizes semaphore = 1 ∷ 2 ∷ 4 ∷ 8 ∷ cond semaphore [] (16 ∷ [])
+
+-- one of the first n elements, by index
+member-by-index : (l : List ℕ) (n a : ℕ) → n ≤ length l → anyBelow n (λ i. eqb (getD l i 0) a) ≡ member (take n l) a
+unfolding anyBelow member
+member-by-index l zero a h = refl
+member-by-index l (suc n) a h =
+    ap (λ (t : Bool). t || eqb (getD l n 0) a) (member-by-index l n a (omega arith))
+    ∙ sym (ap (λ (m : List ℕ). member m a) (take-suc l n 0 (omega arith)) ∙ member-append (take n l) (getD l n 0) a)
+
 -- question 7
 module _ (k : Kind) (size : ℕ) where
   pub fence-size : isFence k ≡ true → eqb size 0 ≡ question7 k size
   unfolding question7 member
   fence-size h = rw h (sym (or-false (eqb 0 size) ∙ eqb-swap 0 size))
 
-  -- the sizes of an access, by whether it is a semaphore
-  abbrev sizes : Bool → List ℕ
-  sizes semaphore = 1 ∷ 2 ∷ 4 ∷ 8 ∷ cond semaphore [] (16 ∷ [])
-
-  pub size-known : (n : ℕ) → isFence k ≡ false → size ≡ n → ((b : Bool) → member (sizes b) n ≡ true) → true ≡ question7 k size
+  -- a semaphore has the first four sizes of the table, any other access all five
+  pub size-by-index : (count : ℕ) → isFence k ≡ false → count ≡ cond (isSemaphore k) 4 5 → count ≤ 5
+      → anyBelow count (λ i. eqb (getD (sizes false) i 0) size) ≡ question7 k size
   unfolding question7
-  size-known n h e m = rw (h, e) (sym (m (isSemaphore k)))
-
-  pub size-wide : isFence k ≡ false → size ≡ 16 → not (isSemaphore k) ≡ question7 k size
-  unfolding question7 member
-  size-wide h e = rw (h, e) (last (isSemaphore k))
+  size-by-index count h c few =
+      rw h (member-by-index (sizes false) count size few ∙ ap (λ (l : List ℕ). member l size) (ap (λ (n : ℕ). take n (sizes false)) c ∙ first (isSemaphore k)))
     where
-      last : (b : Bool) → not b ≡ member (sizes b) 16
-      last true = refl
-      last false = refl
-
-  pub size-unknown : isFence k ≡ false → (size ≡ 1 → ⊥) → (size ≡ 2 → ⊥) → (size ≡ 4 → ⊥) → (size ≡ 8 → ⊥) → (size ≡ 16 → ⊥) → false ≡ question7 k size
-  unfolding question7 member
-  size-unknown h n1 n2 n4 n8 n16 =
-      rw (
-        h,
-        ne-eqb 1 size (λ e. n1 (sym e)),
-        ne-eqb 2 size (λ e. n2 (sym e)),
-        ne-eqb 4 size (λ e. n4 (sym e)),
-        ne-eqb 8 size (λ e. n8 (sym e)),
-      ) (last (isSemaphore k))
-    where
-      last : (b : Bool) → false ≡ member (cond b [] (16 ∷ [])) size
-      last true = refl
-      last false = rw (ne-eqb 16 size (λ e. n16 (sym e)))
+      first : (b : Bool) → take (cond b 4 5) (sizes false) ≡ sizes b
+      first true = refl
+      first false = refl
 
   pub size-positive : isFence k ≡ false → question7 k size ≡ true → 0 < size
   unfolding question7 all

@@ -1,12 +1,12 @@
 // The section of programs, one for each processor.
 ghost use mathlib.Core.Path.{_≡_};
-ghost use mathlib.Core.Bool.{true};
+ghost use mathlib.Core.Bool.{true, cond};
 ghost use mathlib.Core.List.{List, []};
 ghost use Prim.Native.Nat.{ℕ, _+_, _*_, _<_, _≤_};
 ghost use lib.ListN.{length, take, drop};
 ghost use lib.Dec.{eqb};
 ghost use Rattle.base.specs.Lists.{all};
-ghost use Rattle.model.specs.Execution.{Instruction, operationCount};
+ghost use Rattle.model.specs.Execution.{Instruction, isSemaphore, operationCount};
 ghost use Rattle.model.specs.Questions.{moreLength, question7, question8, question9, question26, question27, instructionOf, readInstruction, readProgram, readPrograms, readInstructions, many};
 ghost use Rattle.record_decoded.specs.Kinds.{meant};
 ghost use Rattle.record_decoded.specs.Decoded.{attributesOf, instructionsOf, Counted};
@@ -53,6 +53,19 @@ pub fn no_instructions() -> Instructions
     }
 }
 
+// The sizes of accesses. The last is none of a semaphore.
+const SIZES: [u8; 5] = [1, 2, 4, 8, WIDE_SIZE];
+
+// How many of these sizes the accesses of a kind have, from the first on.
+fn size_count(k: Kind) -> usize
+    ensures { λ r. ⌜ (r ≡ cond (isSemaphore (meant k)) 4 5) × (r ≤ 5) ⌝ }
+{
+    if is_semaphore(k) {
+        return SIZES.len() - 1;
+    }
+    SIZES.len()
+}
+
 // Question 7.
 fn size_passes(k: Kind, size: u8) -> bool
     ensures { λ r. ⌜ r ≡ question7 (meant k) size ⌝ }
@@ -60,14 +73,13 @@ fn size_passes(k: Kind, size: u8) -> bool
     if is_fence(k) {
         return size == 0;
     }
-    match size {
-        1 => true,
-        2 => true,
-        4 => true,
-        8 => true,
-        WIDE_SIZE => !is_semaphore(k),
-        _ => false,
+    let count = size_count(k);
+    for i in 0..count {
+        if SIZES[i] == size {
+            return true;
+        }
     }
+    false
 }
 
 // Question 26.

@@ -22,8 +22,8 @@ use crate::table::RELEASE;
 use crate::table::both;
 use crate::table::either;
 use crate::table::has_mark;
+use crate::table::overlaps;
 use crate::table::program_marks;
-use crate::table::shared_bytes;
 use crate::table::with_mark;
 use record_decoded::kind::Attribute;
 use record_decoded::kind::Kind;
@@ -160,12 +160,11 @@ fn marks_row(x: Execution, i: InstructionNo) -> [u16; MOST_INSTRUCTIONS]
         let own = processor == processors[k];
         let same = first == k;
         let earlier = both(own, first < k);
-        let shared = shared_bytes(address, size, addresses[k], sizes[k]);
-        let overlaps = shared.from < shared.end;
+        let shares = overlaps(address, size, addresses[k], sizes[k]);
         let given = is_pair(x.pairs, i, InstructionNo(k));
         let b = kind_of(kinds[k]);
         let of_b = attribute_in(x.lines, addresses[k]);
-        row[k] = marks_by(same, own, earlier, overlaps, given, a, b, of_a, of_b);
+        row[k] = marks_by(same, own, earlier, shares, given, a, b, of_a, of_b);
     }
     row
 }

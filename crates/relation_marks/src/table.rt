@@ -2,6 +2,8 @@
 ghost use mathlib.Core.Path.{_≡_};
 ghost use mathlib.Core.Bool.{cond, _&&_, _||_};
 ghost use Prim.Native.Nat.{_+_, _-_, _*_, _<_, _≤_, min, max};
+ghost use lib.ListN.{length};
+ghost use lib.Dec.{ltb};
 ghost use Rattle.base.specs.Lists.{count};
 ghost use Rattle.record_decoded.specs.Kinds.{meant};
 ghost use Rattle.relation_marks.specs.Marks.{programMarks, sharedBy, hasMark};
@@ -86,7 +88,7 @@ pub struct SharedBytes {
 }
 
 // The bytes that two accesses share, each by its address and size.
-pub fn shared_bytes(address: u8, size: u8, other: u8, extent: u8) -> SharedBytes
+fn shared_bytes(address: u8, size: u8, other: u8, extent: u8) -> SharedBytes
     ensures { λ r. ⌜ sharedBy address size other extent ≡ count (r .from) (r .end - r .from) ⌝ }
 {
     let a = wide(address);
@@ -98,6 +100,14 @@ pub fn shared_bytes(address: u8, size: u8, other: u8, extent: u8) -> SharedBytes
     let from = larger(a, o);
     let end = smaller(own_end, other_end);
     SharedBytes { from, end }
+}
+
+// Whether two accesses overlap: whether they share a byte.
+pub fn overlaps(address: u8, size: u8, other: u8, extent: u8) -> bool
+    ensures { λ r. ⌜ r ≡ ltb 0 (length (sharedBy address size other extent)) ⌝ }
+{
+    let shared = shared_bytes(address, size, other, extent);
+    shared.from < shared.end
 }
 
 pub fn both(a: bool, b: bool) -> bool

@@ -1,7 +1,7 @@
 -- What the parts of the test come to: bits of words, and the members of a set that do not stand.
 use Prim.Native.Nat.{ℕ, _+_, _*_, _^_, _≤_, _<_}
 use native.Mathlib.Omega.{arith}
-use mathlib.Core.Path.{_≡_, refl, sym, ap, ap₂, _∙_, subst}
+use mathlib.Core.Path.{_≡_, refl, sym, ap, ap₂, _∙_}
 use mathlib.Core.Bool.{Bool, true, false, not, cond, _&&_, _||_, and-assoc, or-false}
 use mathlib.Core.List.{List}
 use lib.ListN.{getD, set}
@@ -11,12 +11,12 @@ use borrow.Author.Tests.{eq-eqb, ne-eqb, eqb-true, le-ltb, lt-ltb, not-true, not
 use Rattle.base.specs.Below.{allBelow, anyBelow}
 use Rattle.base.specs.Bits.{bit}
 use Rattle.base.proofs.Bools.{agree}
-use Rattle.base.proofs.Tests.{all-fails, all-at, all-below, all-same, any-below-same}
+use Rattle.base.proofs.Tests.{all-at, all-below, all-same, any-below-same}
 use Rattle.relation_places.specs.Places.{beforeBy}
 use Rattle.search_sets.specs.Set.{holds}
 use Rattle.search_sets.proofs.Bit.{has-and, has-or}
 use Rattle.search_sets.proofs.Laws.{has-minus, has-xor, zero-has, bits-zero}
-use Rattle.search_sets.proofs.Members.{any-skips, holds-none}
+use Rattle.search_sets.proofs.Members.{any-skips}
 use Rattle.search_admit.specs.Rows.{field, awaited, bypasses, writtenBits, writtenData, writtenWord, wordsWritten, readBits, readData, visibleWord, ownWord, wordsRead, ownOf, localOf, readOf, writesBit, merged, wordOver, wordsUpTo, wordsWith, replacedUpTo, wordsBack}
 use Rattle.search_admit.specs.Fits.{bothOrNeither, bitAgrees, waitsFor, refused, pending, localBit, wordRecorded, readsRecorded}
 
@@ -118,18 +118,6 @@ module _ (rows : List ℕ) (lo hi h x : ℕ) {word : ℕ} (is : word ≡ visible
   local-by mlo mhi i e =
       any-below-same _ _ 128 (λ m l. ap (λ (b : Bool). b && (standsLocal rows lo hi m && writesBit rows word m i)) (e m)) ∙ local-is i
 
--- before any operation stands no bit is local
-pub local-none : (rows : List ℕ) (h x i : ℕ) → bit 0 i ≡ localBit rows 0 0 h x i
-unfolding localBit pending anyBelow
-local-none rows h x i =
-    zero-has i ∙ sym (any-skips _ 0 128 (omega arith) (λ m a l.
-    go (bypasses rows x m && not (holds 0 0 m)) (ltb (localOf rows m) 128) (holds 0 0 (localOf rows m)) (writesBit rows (visibleWord rows h x) m i) (holds-none (localOf rows m))))
-  where
-    go : (a b d w : Bool) → d ≡ false → (a && (b && d) && w) ≡ false
-    go true true d w e = ap (λ (u : Bool). u && w) e
-    go true false d w e = refl
-    go false b d w e = refl
-
 -- a word is 0 when none of its bits is set
 word-zero : (w : ℕ) → w < 2 ^ 64 → eqb w 0 ≡ allBelow 64 (λ i. not (bit w i))
 word-zero w h =
@@ -212,13 +200,6 @@ module _ (rows : List ℕ) (x : ℕ) {bits : ℕ} (is : bits ≡ readBits rows 0
   pub reads-none : bits ≡ 0 → 0 ≡ wordsRead rows x
   reads-none z = ap (λ (b : Bool). cond b 0 (cond (eqb (readBits rows 1 x) 0) 1 2)) (sym (eq-eqb (readBits rows 0 x) 0 (sym is ∙ z)))
 
-  pub reads-some : (bits ≡ 0 → ⊥) → 0 < wordsRead rows x
-  reads-some some = subst (λ (b : Bool). 0 < cond b 0 (cond (eqb (readBits rows 1 x) 0) 1 2)) (sym (ne-eqb (readBits rows 0 x) 0 (λ z. some (is ∙ z)))) (go (eqb (readBits rows 1 x) 0))
-    where
-      go : (d : Bool) → 0 < cond d 1 2
-      go true = omega arith
-      go false = omega arith
-
   module _ (some : bits ≡ 0 → ⊥) {next : ℕ} (next-is : next ≡ readBits rows 1 x) where
     some-first : eqb (readBits rows 0 x) 0 ≡ false
     some-first = ne-eqb (readBits rows 0 x) 0 (λ z. some (is ∙ z))
@@ -229,28 +210,15 @@ module _ (rows : List ℕ) (x : ℕ) {bits : ℕ} (is : bits ≡ readBits rows 0
     pub reads-two : (next ≡ 0 → ⊥) → 2 ≡ wordsRead rows x
     reads-two z = ap₂ (λ (b d : Bool). cond b 0 (cond d 1 2)) (sym some-first) (sym (ne-eqb (readBits rows 1 x) 0 (λ e. z (next-is ∙ e))))
 
--- whether the words that are read are as recorded, one after the other
+-- no word is read, or one
 module _ (rows words : List ℕ) (lo hi x : ℕ) where
   pub reads-nothing : wordsRead rows x ≡ 0 → true ≡ readsRecorded rows lo hi words x
   unfolding allBelow
   reads-nothing n = reads-all rows words lo hi x (sym n) refl
 
-  module _ {first : Bool} (first-is : first ≡ wordRecorded rows lo hi words x 0) where
-    pub reads-wrong : 0 < wordsRead rows x → not first ≡ true → false ≡ readsRecorded rows lo hi words x
-    unfolding readsRecorded
-    reads-wrong some e = sym (all-fails (wordRecorded rows lo hi words x) (wordsRead rows x) 0 some (sym first-is ∙ not-true first e))
-
-    pub reads-first : wordsRead rows x ≡ 1 → not first ≡ false → true ≡ readsRecorded rows lo hi words x
-    unfolding allBelow
-    reads-first n e = reads-all rows words lo hi x (sym n) (sym (not-false first e) ∙ first-is)
-
-    pub reads-only : wordsRead rows x ≡ 1 → first ≡ readsRecorded rows lo hi words x
-    unfolding allBelow
-    reads-only n = reads-all rows words lo hi x (sym n) first-is
-
-    pub reads-next : wordsRead rows x ≡ 2 → not first ≡ false → {r : Bool} → r ≡ wordRecorded rows lo hi words x 1 → r ≡ readsRecorded rows lo hi words x
-    unfolding allBelow
-    reads-next n e is = reads-all rows words lo hi x (sym n) (is ∙ ap (λ (b : Bool). b && wordRecorded rows lo hi words x 1) (sym (not-false first e) ∙ first-is))
+  pub reads-only : {first : Bool} → first ≡ wordRecorded rows lo hi words x 0 → wordsRead rows x ≡ 1 → first ≡ readsRecorded rows lo hi words x
+  unfolding allBelow
+  reads-only first-is n = reads-all rows words lo hi x (sym n) first-is
 
 -- how many words are written, by the bits of the next one
 module _ (rows : List ℕ) (x : ℕ) {next : ℕ} (is : next ≡ writtenBits rows 1 x) where
@@ -341,6 +309,6 @@ module _ (rows : List ℕ) (lo hi m i : ℕ) (wrote : Bool) {local : ℕ} (is : 
       rw (lt-ltb (localOf rows m) 128 (omega (arith, is)), ap (holds lo hi) (sym is) ∙ sym e ∙ not-false r h) q
 
 -- what must stand before an operation does, by the words of its set
-pub ready-by : (rows : List ℕ) (lo hi x : ℕ) {alo ahi : ℕ} {r : Bool} → alo ≡ field rows 0 x → ahi ≡ field rows 1 x
-    → r ≡ allBelow 128 (λ a. not (holds alo ahi a) || holds lo hi a) → r ≡ allBelow 128 (λ a. not (holds (field rows 0 x) (field rows 1 x) a) || holds lo hi a)
+pub ready-by : (rows : List ℕ) (lo hi x : ℕ) {alo ahi : ℕ} {r : Bool} → alo ≡ field rows 9 x → ahi ≡ field rows 10 x
+    → r ≡ allBelow 128 (λ a. not (holds alo ahi a) || holds lo hi a) → r ≡ allBelow 128 (λ a. not (holds (field rows 9 x) (field rows 10 x) a) || holds lo hi a)
 ready-by rows lo hi x low high e = e ∙ ap₂ (λ (p q : ℕ). allBelow 128 (λ a. not (holds p q a) || holds lo hi a)) low high

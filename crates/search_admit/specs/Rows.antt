@@ -40,7 +40,7 @@ module _ (rows : List ℕ) where
 
   -- a must stand before x
   abbrev pub precedes : ℕ → ℕ → Bool
-  precedes x a = setBy rows 0 x a
+  precedes x a = setBy rows 9 x a
 
   -- a is an RV of the release to WB that x is an RV of
   abbrev pub partnerBy : ℕ → ℕ → Bool
@@ -48,23 +48,23 @@ module _ (rows : List ℕ) where
 
   -- x may have to wait for a by rule 9, 10, 14 or 16
   abbrev pub awaited : ℕ → ℕ → Bool
-  awaited x a = setBy rows 4 x a
+  awaited x a = setBy rows 0 x a
 
   -- a is the own RV of a store whose bytes the R x may read before it
   abbrev pub bypasses : ℕ → ℕ → Bool
-  bypasses x a = setBy rows 6 x a
+  bypasses x a = setBy rows 11 x a
 
   -- An access goes to its line's word of memory and, where it lies on two lines, to the next: these are its words 0 and 1.
 
   -- the bits that x writes to its word h, what it writes, and which word that is
   abbrev pub writtenBits : ℕ → ℕ → ℕ
-  writtenBits h x = field rows (8 + h) x
+  writtenBits h x = field rows (5 + h) x
 
   abbrev pub writtenData : ℕ → ℕ → ℕ
-  writtenData h x = field rows (10 + h) x
+  writtenData h x = field rows (7 + h) x
 
   abbrev pub writtenWord : ℕ → ℕ → ℕ
-  writtenWord h x = (field rows 12 x + h) % 128
+  writtenWord h x = (field rows 4 x + h) % 128
 
   -- how many words it writes: the next one only where it has bits there
   abbrev pub wordsWritten : ℕ → ℕ
@@ -72,13 +72,13 @@ module _ (rows : List ℕ) where
 
   -- the bits that the R x reads of its word h, what it saw, and the words where others' and, 64 behind, where its own processor's stores are
   abbrev pub readBits : ℕ → ℕ → ℕ
-  readBits h x = field rows (13 + h) x
+  readBits h x = field rows (14 + h) x
 
   abbrev pub readData : ℕ → ℕ → ℕ
-  readData h x = field rows (15 + h) x
+  readData h x = field rows (16 + h) x
 
   abbrev pub visibleWord : ℕ → ℕ → ℕ
-  visibleWord h x = (field rows 17 x + h) % 128
+  visibleWord h x = (field rows 13 x + h) % 128
 
   abbrev pub ownWord : ℕ → ℕ → ℕ
   ownWord h x = (visibleWord h x + 64) % 128
@@ -212,28 +212,28 @@ module _ (x : Execution) (t : Operations) (marks : List (List ℕ)) (o : ℕ) wh
       awaitedBy (markAt marks v owner) role (kindOf (getD (x .instructions .kinds) v 0)) (getD (x .instructions .firsts) v 0) (getD (x .instructions .processors) v 0) a
 
   -- instruction v is a store of o's processor to some of its bytes
-  abbrev pub storesToIts : ℕ → Bool
-  storesToIts v =
+  abbrev pub ownStore : ℕ → Bool
+  ownStore v =
       isStore (kindOf (getD (x .instructions .kinds) v 0))
       && (eqb (getD (x .instructions .processors) v 0) processor && overlap (instructionAt (x .instructions) v) (instructionAt (x .instructions) owner))
 
   -- o is an R, and a the own RV of such a store v
   abbrev pub bypassOf : ℕ → ℕ → Bool
-  bypassOf v a = eqb role 0 && (storesToIts v && eqb a (RV-own (instructionAt (x .instructions) v)))
+  bypassOf v a = eqb role 0 && (ownStore v && eqb a (RV-own (instructionAt (x .instructions) v)))
 
   pub record RowOf (bytes : List ℕ) (row : ℕ → ℕ) : Type 0 where
     pub preds-are : (a : ℕ) → a < 128
-        → holds (row 0) (row 1) a
+        → holds (row 9) (row 10) a
         ≡ (ltb a (operations (executionOf bytes x)) && linked (executionOf bytes x) (operationAt (x .instructions) t a) (operationAt (x .instructions) t o))
     pub partners-are : (a : ℕ) → a < 128 → holds (row 2) (row 3) a ≡ partner bytes x o a
-    pub awaited-are : (a : ℕ) → a < 128 → holds (row 4) (row 5) a ≡ anyBelow (x .instructions .count) (λ v. awaitedOf v a)
-    pub bypasses-are : (a : ℕ) → a < 128 → holds (row 6) (row 7) a ≡ anyBelow (x .instructions .count) (λ v. bypassOf v a)
-    pub writes-bits : (h i : ℕ) → h < 2 → i < 64 → bit (row (8 + h)) i ≡ (writes role && covers x owner (64 * h + i))
-    pub writes-data : (h i : ℕ) → h < 2 → i < 64 → bit (row (10 + h)) i ≡ (writes role && dataBit bytes x owner (writtenFrom kind) (64 * h + i))
-    pub writes-word : writes role ≡ true → row 12 ≡ cond (eqb role 1) (ownAt processor line) (visibleAt (role - 3) line)
-    pub reads-bits : (h i : ℕ) → h < 2 → i < 64 → bit (row (13 + h)) i ≡ (eqb role 0 && covers x owner (64 * h + i))
-    pub reads-data : (h i : ℕ) → h < 2 → i < 64 → bit (row (15 + h)) i ≡ (eqb role 0 && dataBit bytes x owner 0 (64 * h + i))
-    pub reads-visible : role ≡ 0 → row 17 ≡ visibleAt processor line
+    pub awaited-are : (a : ℕ) → a < 128 → holds (row 0) (row 1) a ≡ anyBelow (x .instructions .count) (λ v. awaitedOf v a)
+    pub bypasses-are : (a : ℕ) → a < 128 → holds (row 11) (row 12) a ≡ anyBelow (x .instructions .count) (λ v. bypassOf v a)
+    pub writes-bits : (h i : ℕ) → h < 2 → i < 64 → bit (row (5 + h)) i ≡ (writes role && covers x owner (64 * h + i))
+    pub writes-data : (h i : ℕ) → h < 2 → i < 64 → bit (row (7 + h)) i ≡ (writes role && dataBit bytes x owner (writtenFrom kind) (64 * h + i))
+    pub writes-word : writes role ≡ true → row 4 ≡ cond (eqb role 1) (ownAt processor line) (visibleAt (role - 3) line)
+    pub reads-bits : (h i : ℕ) → h < 2 → i < 64 → bit (row (14 + h)) i ≡ (eqb role 0 && covers x owner (64 * h + i))
+    pub reads-data : (h i : ℕ) → h < 2 → i < 64 → bit (row (16 + h)) i ≡ (eqb role 0 && dataBit bytes x owner 0 (64 * h + i))
+    pub reads-visible : role ≡ 0 → row 13 ≡ visibleAt processor line
     pub own-is : row 18 ≡ cond (writes role) (RV-own (instructionAt (x .instructions) owner)) o
     pub local-is : row 19 ≡ cond (writes role) (numberOf (instructionAt (x .instructions) owner) LV) o
     pub read-is : row 20 ≡ cond (writes role && isSemaphore kind) (numberOf (instructionAt (x .instructions) owner) R) o

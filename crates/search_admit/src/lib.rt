@@ -6,7 +6,7 @@ ghost use lib.ListN.{length, getD, set};
 ghost use Rattle.base.specs.Below.{allBelow, anyBelow};
 ghost use Rattle.base.specs.Bits.{bit};
 ghost use Rattle.search_sets.specs.Set.{holds};
-ghost use Rattle.search_admit.specs.Rows.{rowLength, field, writtenWord, visibleWord, wordsRead, localOf, writesBit, wordOver, wordsWith, replacedWith, wordsWithout, firstWords};
+ghost use Rattle.search_admit.specs.Rows.{rowLength, field, writtenWord, visibleWord, wordsRead, localOf, writesBit, wordOver, wordsWith, replacedWith, wordsWithout};
 ghost use lib.Dec.{ltb};
 ghost use Rattle.search_admit.specs.Fits.{bothOrNeither, waitsFor, refused, localBit, bitAgrees, readsRecorded, enabled};
 use record_decoded::position::Position;
@@ -19,27 +19,28 @@ use search_sets::has;
 use search_sets::minus;
 use search_sets::subset;
 
-// The words of a row, in their order.
-pub const PREDS: usize = 0;
+// The words of a row, in their order: what is read of an operation as it is entered, then what is read where it is asked whether it is enabled. Each is mostly one
+// line of the processor's cache.
+pub const AWAITED: usize = 0;
 
 pub const PARTNERS: usize = 2;
 
-pub const AWAITED: usize = 4;
-
-pub const BYPASSES: usize = 6;
-
 // An access has two words of memory, of its line and of the next: bits and data are two words each.
-pub const WRITTEN_BITS: usize = 8;
+pub const WRITTEN_WORD: usize = 4;
 
-pub const WRITTEN_DATA: usize = 10;
+pub const WRITTEN_BITS: usize = 5;
 
-pub const WRITTEN_WORD: usize = 12;
+pub const WRITTEN_DATA: usize = 7;
 
-pub const READ_BITS: usize = 13;
+pub const PREDS: usize = 9;
 
-pub const READ_DATA: usize = 15;
+pub const BYPASSES: usize = 11;
 
-pub const VISIBLE_WORD: usize = 17;
+pub const VISIBLE_WORD: usize = 13;
+
+pub const READ_BITS: usize = 14;
+
+pub const READ_DATA: usize = 16;
 
 pub const OWN: usize = 18;
 
@@ -56,12 +57,6 @@ pub const WORDS: usize = 128;
 
 // The words that the entries of a position wrote over, two for each.
 pub const REPLACED: usize = 2 * Position::LIMIT;
-
-// The words of an access in its line and in the next.
-pub struct TwoWords {
-    pub first: u64,
-    pub next: u64,
-}
 
 // Word f of the row of operation x.
 pub fn field_of(rows: &[u64; TABLE], x: OperationNo, f: usize) -> u64
@@ -82,7 +77,7 @@ pub fn word_of(rows: &[u64; TABLE], x: OperationNo, f: usize, h: usize) -> usize
 }
 
 // The word of memory for what a processor's own stores wrote, by that for what is visible to it.
-pub fn own_of(visible: usize) -> usize
+fn own_of(visible: usize) -> usize
     requires { ⌜ visible < 128 ⌝ }
     ensures { λ r. ⌜ (r ≡ (visible + 64) % 128) × (r < 128) ⌝ }
 {
@@ -182,59 +177,42 @@ fn bits_at(rows: &[u64; TABLE], m: OperationNo, word: usize) -> u64
     0
 }
 
-// The bits that the store of m wrote to two words of memory, where its LV stands.
-fn bits_of(rows: &[u64; TABLE], stand: Set, m: OperationNo, word: usize, next: usize) -> TwoWords
+// The bits that the store of m wrote to a word of memory, where its LV stands.
+fn bits_of(rows: &[u64; TABLE], stand: Set, m: OperationNo, word: usize) -> u64
     requires { ⌜ m .0 < 128 ⌝ }
-    ensures { λ r. ⌜ ((i : ℕ) → bit (r .first) i ≡ (ltb (localOf (now (rows .entry)) (m .0)) 128 && holds (stand .lo) (stand .hi) (localOf (now (rows .entry)) (m .0)) && writesBit (now (rows .entry)) word (m .0) i)) × ((i : ℕ) → bit (r .next) i ≡ (ltb (localOf (now (rows .entry)) (m .0)) 128 && holds (stand .lo) (stand .hi) (localOf (now (rows .entry)) (m .0)) && writesBit (now (rows .entry)) next (m .0) i)) ⌝ }
+    ensures { λ r. ⌜ ((i : ℕ) → bit r i ≡ (ltb (localOf (now (rows .entry)) (m .0)) 128 && holds (stand .lo) (stand .hi) (localOf (now (rows .entry)) (m .0)) && writesBit (now (rows .entry)) word (m .0) i)) ⌝ }
 {
     let local = field_of(rows, m, LOCAL) as usize;
     if local >= Position::LIMIT {
-        return TwoWords { first: 0, next: 0 };
+        return 0;
     }
     if !has(stand, local) {
-        return TwoWords { first: 0, next: 0 };
+        return 0;
     }
-    let first = bits_at(rows, m, word);
-    let second = bits_at(rows, m, next);
-    TwoWords {
-        first,
-        next: second,
-    }
+    bits_at(rows, m, word)
 }
 
-// The bits that those of the missing stores wrote to two words of memory whose LVs stand.
-fn pending_bits(rows: &[u64; TABLE], stand: Set, missing: Set, word: usize, next: usize) -> TwoWords
-    ensures { λ r. ⌜ ((i : ℕ) → bit (r .first) i ≡ anyBelow 128 (λ (m : ℕ). holds (missing .lo) (missing .hi) m && (ltb (localOf (now (rows .entry)) m) 128 && holds (stand .lo) (stand .hi) (localOf (now (rows .entry)) m) && writesBit (now (rows .entry)) word m i))) × ((i : ℕ) → bit (r .next) i ≡ anyBelow 128 (λ (m : ℕ). holds (missing .lo) (missing .hi) m && (ltb (localOf (now (rows .entry)) m) 128 && holds (stand .lo) (stand .hi) (localOf (now (rows .entry)) m) && writesBit (now (rows .entry)) next m i))) ⌝ }
+// The bits that those of the missing stores wrote to a word of memory whose LVs stand.
+fn pending_bits(rows: &[u64; TABLE], stand: Set, missing: Set, word: usize) -> u64
+    ensures { λ r. ⌜ ((i : ℕ) → bit r i ≡ anyBelow 128 (λ (m : ℕ). holds (missing .lo) (missing .hi) m && (ltb (localOf (now (rows .entry)) m) 128 && holds (stand .lo) (stand .hi) (localOf (now (rows .entry)) m) && writesBit (now (rows .entry)) word m i))) ⌝ }
 {
     let mut bits = 0;
-    let mut beside = 0;
     let mut m = first(missing, 0);
     while m < BOUND {
-        let more = bits_of(rows, stand, OperationNo(m), word, next);
-        bits |= more.first;
-        beside |= more.next;
+        bits |= bits_of(rows, stand, OperationNo(m), word);
         let from = m + 1;
         m = first(missing, from);
     }
-    TwoWords {
-        first: bits,
-        next: beside,
-    }
+    bits
 }
 
-// The bits that the R x reads from what its own processor wrote, of its two words.
-fn local_bits(
-    rows: &[u64; TABLE],
-    stand: Set,
-    x: OperationNo,
-    visible: usize,
-    next: usize,
-) -> TwoWords
-    requires { ⌜ (x .0 < 128) × (visible ≡ visibleWord (now rows) 0 (x .0)) × (next ≡ visibleWord (now rows) 1 (x .0)) ⌝ }
-    ensures { λ r. ⌜ ((i : ℕ) → bit (r .first) i ≡ localBit (now (rows .entry)) (stand .lo) (stand .hi) 0 (x .0) i) × ((i : ℕ) → bit (r .next) i ≡ localBit (now (rows .entry)) (stand .lo) (stand .hi) 1 (x .0) i) ⌝ }
+// The bits that the R x reads from what its own processor wrote, of its word h, which is `visible`.
+fn local_bits(rows: &[u64; TABLE], stand: Set, x: OperationNo, h: usize, visible: usize) -> u64
+    requires { ⌜ (x .0 < 128) × (visible ≡ visibleWord (now rows) h (x .0)) ⌝ }
+    ensures { λ r. ⌜ ((i : ℕ) → bit r i ≡ localBit (now (rows .entry)) (stand .lo) (stand .hi) h (x .0) i) ⌝ }
 {
     let stores = set_of(rows, x, BYPASSES);
-    pending_bits(rows, stand, minus(stores, stand), visible, next)
+    pending_bits(rows, stand, minus(stores, stand), visible)
 }
 
 // Whether what is seen, of `own` where `local` is set and of `visible` elsewhere, is `data` in some bits.
@@ -278,26 +256,20 @@ fn reads_word(
     agrees(words[own], words[visible], local, data, bits)
 }
 
-// Rule 11: whether operation x, which reads its first word, `visible`, reads what is recorded in it and, where it reads of it, in the next.
-fn reads_both(
-    rows: &[u64; TABLE],
-    words: &[u64; WORDS],
-    stand: Set,
-    x: OperationNo,
-    visible: usize,
-) -> bool
-    requires { ⌜ (x .0 < 128) × (visible < 128) × (visible ≡ visibleWord (now rows) 0 (x .0)) × (0 < wordsRead (now rows) (x .0)) ⌝ }
+// Rule 11: whether operation x reads what is recorded, one word after the other.
+fn reads_words(rows: &[u64; TABLE], words: &[u64; WORDS], stand: Set, x: OperationNo) -> bool
+    requires { ⌜ x .0 < 128 ⌝ }
     ensures { λ r. ⌜ r ≡ readsRecorded (now (rows .entry)) (stand .lo) (stand .hi) (now (words .entry)) (x .0) ⌝ }
 {
-    let next = word_of(rows, x, VISIBLE_WORD, 1);
-    let local = local_bits(rows, stand, x, visible, next);
-    if !reads_word(rows, words, x, 0, visible, local.first) {
-        return false;
+    let n = words_read(rows, x);
+    for h in 0..n {
+        let visible = word_of(rows, x, VISIBLE_WORD, h);
+        let local = local_bits(rows, stand, x, h, visible);
+        if !reads_word(rows, words, x, h, visible, local) {
+            return false;
+        }
     }
-    if field_of(rows, x, READ_BITS + 1) == 0 {
-        return true;
-    }
-    reads_word(rows, words, x, 1, next, local.next)
+    true
 }
 
 // Rule 11: whether operation x reads what is recorded. Mostly it reads one word and no store of its processor is missing, so that is asked first. (Of a
@@ -309,13 +281,13 @@ fn reads_right(rows: &[u64; TABLE], words: &[u64; WORDS], stand: Set, x: Operati
     if field_of(rows, x, READ_BITS) == 0 {
         return true;
     }
-    let visible = word_of(rows, x, VISIBLE_WORD, 0);
     if field_of(rows, x, READ_BITS + 1) == 0 {
         if subset(set_of(rows, x, BYPASSES), stand) {
+            let visible = word_of(rows, x, VISIBLE_WORD, 0);
             return reads_word(rows, words, x, 0, visible, 0);
         }
     }
-    reads_both(rows, words, stand, x, visible)
+    reads_words(rows, words, stand, x)
 }
 
 // Whether what must stand before operation x stands, and x reads what is recorded: `stand` has the operations that stand, `words` what they wrote.
@@ -329,32 +301,16 @@ pub fn is_enabled(rows: &[u64; TABLE], words: &[u64; WORDS], stand: Set, x: Oper
     reads_right(rows, words, stand, x)
 }
 
-// Whether operation x reads what is initial, so relative to the initial bytes 0.
-fn reads_initial(rows: &[u64; TABLE], x: OperationNo) -> bool
+// Whether operation x is enabled before any operation stands: nothing must stand before it, and it reads what is recorded.
+pub fn is_enabled_first(rows: &[u64; TABLE], words: &[u64; WORDS], x: OperationNo) -> bool
     requires { ⌜ x .0 < 128 ⌝ }
-    ensures { λ r. ⌜ r ≡ readsRecorded (now (rows .entry)) 0 0 firstWords (x .0) ⌝ }
-{
-    let n = words_read(rows, x);
-    for h in 0..n {
-        let bits = field_of(rows, x, READ_BITS + h);
-        let data = field_of(rows, x, READ_DATA + h);
-        if !agrees(0, 0, 0, data, bits) {
-            return false;
-        }
-    }
-    true
-}
-
-// Whether operation x is enabled before any operation stands: nothing must stand before it, and what it reads is initial.
-pub fn is_enabled_first(rows: &[u64; TABLE], x: OperationNo) -> bool
-    requires { ⌜ x .0 < 128 ⌝ }
-    ensures { λ r. ⌜ r ≡ enabled (now (rows .entry)) 0 0 firstWords (x .0) ⌝ }
+    ensures { λ r. ⌜ r ≡ enabled (now (rows .entry)) 0 0 (now (words .entry)) (x .0) ⌝ }
 {
     let none = Set { lo: 0, hi: 0 };
     if !subset(set_of(rows, x, PREDS), none) {
         return false;
     }
-    reads_initial(rows, x)
+    reads_words(rows, words, none, x)
 }
 
 // Writes operation x's word h, and answers with what was there.

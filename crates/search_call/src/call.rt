@@ -1,9 +1,9 @@
 // The search call: the record's questions, those of the buffer and the saved position, then the search.
 ghost use mathlib.Core.Path.{_≡_};
 ghost use mathlib.Core.Bool.{true};
-ghost use Prim.Native.Nat.{ℕ, _≤_};
+ghost use Prim.Native.Nat.{_≤_};
 ghost use lib.ListN.{length, take};
-ghost use mathlib.Core.List.{List, []};
+ghost use mathlib.Core.List.{[]};
 ghost use Rattle.base.specs.Lists.{distinct};
 ghost use Rattle.relation_links.specs.Compiled.{Compiled};
 ghost use Rattle.model.specs.Calls.{says, searchPosition, searchSaved, searchReply, searchCall};

@@ -45,7 +45,7 @@ linkedOf every kinds firsts processors marks w role v a =
     linkedFrom (markAt marks v w) (kindOf (getD kinds v 0)) (getD processors v 0) (getD firsts v 0) every role a
 
 -- instruction v is a store of w's processor to some of its bytes
-abbrev pub storesToItsBy : List ℕ → List ℕ → List ℕ → List ℕ → ℕ → ℕ → Bool
-storesToItsBy kinds processors addresses sizes w v =
+abbrev pub ownStoreBy : List ℕ → List ℕ → List ℕ → List ℕ → ℕ → ℕ → Bool
+ownStoreBy kinds processors addresses sizes w v =
     isStore (kindOf (getD kinds v 0))
     && (eqb (getD processors v 0) (getD processors w 0) && ltb 0 (length (sharedBy (getD addresses v 0) (getD sizes v 0) (getD addresses w 0) (getD sizes w 0))))

@@ -12,7 +12,7 @@ ghost use Rattle.search_sets.specs.Set.{holds};
 ghost use Rattle.base.specs.Below.{anyBelow};
 ghost use Rattle.search_admit.specs.Rows.{awaitedBy};
 ghost use Rattle.relation_links.specs.Linked.{linkedBy};
-ghost use Rattle.search_constraints.specs.Rows.{isRemote, partnerOf, remoteLinked, localLinked, linkedFrom, linkedOf, storesToItsBy};
+ghost use Rattle.search_constraints.specs.Rows.{isRemote, partnerOf, remoteLinked, localLinked, linkedFrom, linkedOf, ownStoreBy};
 use record_decoded::kind::Kind;
 use record_decoded::kind::ROLE_R;
 use record_decoded::kind::ROLE_RV;
@@ -38,7 +38,7 @@ use relation_marks::table::REMOTE_LINK_MARKS;
 use relation_marks::table::SAME;
 use relation_marks::table::both;
 use relation_marks::table::has_mark;
-use relation_marks::table::shared_bytes;
+use relation_marks::table::overlaps;
 use search_sets::Set;
 use search_sets::insert_if;
 
@@ -252,7 +252,7 @@ pub fn bypasses_at<'a>(
     role: u8,
 ) -> Set
     requires { ⌜ (n ≤ 40) × (w .0 < 40) ⌝ }
-    ensures { λ r. ⌜ ((a : ℕ) → a < 128 → holds (r .lo) (r .hi) a ≡ anyBelow n (λ (v : ℕ). eqb role 0 && (storesToItsBy (now (kinds .entry)) (now (processors .entry)) (now (addresses .entry)) (now (sizes .entry)) (w .0) v && eqb a (numberFrom (getD (now (firsts .entry)) v 0) (kindOf (getD (now (kinds .entry)) v 0)) (RV (getD (now (processors .entry)) v 0)))))) ⌝ }
+    ensures { λ r. ⌜ ((a : ℕ) → a < 128 → holds (r .lo) (r .hi) a ≡ anyBelow n (λ (v : ℕ). eqb role 0 && (ownStoreBy (now (kinds .entry)) (now (processors .entry)) (now (addresses .entry)) (now (sizes .entry)) (w .0) v && eqb a (numberFrom (getD (now (firsts .entry)) v 0) (kindOf (getD (now (kinds .entry)) v 0)) (RV (getD (now (processors .entry)) v 0)))))) ⌝ }
 {
     let mut set = Set { lo: 0, hi: 0 };
     if role != ROLE_R {
@@ -265,8 +265,7 @@ pub fn bypasses_at<'a>(
     for v in 0..n {
         let processor = processors[v];
         let kind = kind_of(kinds[v]);
-        let shared = shared_bytes(addresses[v], sizes[v], address, size);
-        let shares = shared.from < shared.end;
+        let shares = overlaps(addresses[v], sizes[v], address, size);
         let wanted = is_own_store(kind, processor, own, shares);
         let first = wide16(firsts[v]);
         let to = wide(processor);

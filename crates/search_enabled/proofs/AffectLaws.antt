@@ -1,23 +1,24 @@
 -- What the sets of enabled operations come to.
-use Prim.Native.Nat.{ℕ, _+_, _*_, _<_}
+use Prim.Native.Nat.{ℕ, _+_, _*_, _%_, _<_}
 use native.Mathlib.Omega.{arith}
 use native.Mathlib.Decide.{ℕ-discrete}
 use native.Mathlib.Numerals.{add-one}
 use mathlib.Core.Path.{_≡_, refl, sym, ap, ap₂, _∙_}
 use mathlib.Core.Bool.{Bool, true, false, not, cond, _&&_, _||_, and-true, and-false, or-false, or-assoc, false≢true}
 use mathlib.Core.List.{List}
-use lib.ListN.{length, getD}
+use lib.ListN.{length, getD, replicate, getD-replicate}
 use lib.Dec.{eqb, ltb}
 use borrow.Author.Tests.{eq-eqb, ne-eqb, ltb-true, lt-ltb, le-ltb}
 use Rattle.base.specs.Below.{allBelow, anyBelow}
 use Rattle.base.proofs.Bools.{agree}
-use Rattle.base.proofs.Tests.{all-at}
+use Rattle.base.proofs.Tests.{all-at, all-below}
 use Rattle.search_sets.specs.Set.{holds, setAt}
+use Rattle.search_sets.proofs.Members.{holds-none}
 use Rattle.search_sets.proofs.Tables.{putAt, put-here, put-other}
-use Rattle.search_admit.specs.Rows.{field, precedes, partnerBy, bypasses, writtenBits, writtenWord, visibleWord, ownWord, wordsRead, localOf}
+use Rattle.search_admit.specs.Rows.{field, precedes, partnerBy, bypasses, writtenBits, writtenWord, visibleWord, wordsRead, localOf}
 use Rattle.search_admit.specs.Fits.{enabled, dueAfter}
 use Rattle.search_admit.proofs.TestLaws.{writes-one, writes-two}
-use Rattle.search_enabled.specs.Affects.{writesWord, writesEither, writesWordOf, localTo, affects, enabledAfter}
+use Rattle.search_enabled.specs.Affects.{writesAt, writesWordOf, localTo, affects, enabledAfter}
 
 -- those that x does not affect, and those that are asked anew
 pub after-is : (rows affected words : List ℕ) (elo ehi lo hi x y tlo thi alo ahi klo khi wlo whi : ℕ) → tlo ≡ getD affected (2 * x) 0 → thi ≡ getD affected (2 * x + 1) 0
@@ -71,10 +72,21 @@ module _ (rows : List ℕ) (x lo hi plo phi : ℕ) (low : plo ≡ field rows 2 x
   open-some h y e is =
       is ∙ ap₂ (λ (u v : ℕ). holds u v y && e) low high ∙ ap (λ (b : Bool). (b || partnerBy rows x y) && e) (sym h ∙ closed)
 
+-- x has no partners: so all of them stand
+pub no-partners : (plo phi lo hi : ℕ) {r : Bool} → r ≡ allBelow 128 (λ a. not (holds plo phi a) || holds 0 0 a) → r ≡ true
+    → true ≡ allBelow 128 (λ a. not (holds plo phi a) || holds lo hi a)
+no-partners plo phi lo hi e t =
+    sym (all-below (λ a. not (holds plo phi a) || holds lo hi a) 128 (λ a l.
+    go (holds plo phi a) (holds lo hi a) (holds 0 0 a) (holds-none a) (all-at (λ b. not (holds plo phi b) || holds 0 0 b) 128 (sym e ∙ t) a l)))
+  where
+    go : (p s z : Bool) → z ≡ false → (not p || z) ≡ true → (not p || s) ≡ true
+    go true s z n h = absurd (false≢true (sym n ∙ h))
+    go false s z n h = refl
+
 -- one set of the table with y
-pub affected-more : (t : List ℕ) (a y lo hi slo shi k : ℕ) → length t ≡ 256 → a < 128 → slo ≡ getD t (2 * a) 0 → shi ≡ getD t (2 * a + 1) 0
-    → ((i : ℕ) → holds lo hi i ≡ (holds slo shi i || eqb i y)) → (b : ℕ) → b < 128 → setAt (putAt t a lo hi) b k ≡ (setAt t b k || (eqb k y && eqb b a))
-affected-more t a y lo hi slo shi k long l low high more b small = go (ℕ-discrete b a)
+pub affected-more : (t : List ℕ) (a y lo hi slo shi k : ℕ) → 2 * a + 1 < length t → slo ≡ getD t (2 * a) 0 → shi ≡ getD t (2 * a + 1) 0
+    → ((i : ℕ) → holds lo hi i ≡ (holds slo shi i || eqb i y)) → (b : ℕ) → setAt (putAt t a lo hi) b k ≡ (setAt t b k || (eqb k y && eqb b a))
+affected-more t a y lo hi slo shi k long low high more b = go (ℕ-discrete b a)
   where
     go : Dec (b ≡ a) → setAt (putAt t a lo hi) b k ≡ (setAt t b k || (eqb k y && eqb b a))
     go (yes e) =
@@ -88,32 +100,49 @@ affected-more t a y lo hi slo shi k long l low high more b small = go (ℕ-discr
 
 -- what affects y, by the sets that it is made of
 module _ (rows : List ℕ) (a y : ℕ) {count : ℕ} (is : count ≡ wordsRead rows y) where
-  pub affects-none : (plo phi : ℕ) → plo ≡ field rows 0 y → phi ≡ field rows 1 y → count ≡ 0 → holds plo phi a ≡ affects rows a y
+  pub affects-none : (plo phi : ℕ) → plo ≡ field rows 9 y → phi ≡ field rows 10 y → count ≡ 0 → holds plo phi a ≡ affects rows a y
   unfolding affects
   affects-none plo phi low high none =
       ap₂ (λ (u v : ℕ). holds u v a) low high
       ∙ sym (ap (λ (b : Bool). precedes rows y a || not b && ((bypasses rows y a || localTo rows a y) || writesWordOf rows a y)) (eq-eqb (wordsRead rows y) 0 (sym is ∙ none)) ∙ or-false (precedes rows y a))
 
-  pub affects-some : (plo phi slo shi llo lhi wlo whi : ℕ) {r : Bool} → plo ≡ field rows 0 y → phi ≡ field rows 1 y → slo ≡ field rows 6 y → shi ≡ field rows 7 y
+  pub affects-some : (plo phi slo shi llo lhi wlo whi : ℕ) {r : Bool} → plo ≡ field rows 9 y → phi ≡ field rows 10 y → slo ≡ field rows 11 y → shi ≡ field rows 12 y
       → (count ≡ 0 → ⊥) → holds llo lhi a ≡ (holds slo shi a || anyBelow 128 (λ m. holds slo shi m && eqb (localOf rows m) a))
-      → holds wlo whi a ≡ (holds llo lhi a || anyBelow count (λ h. writesEither rows (visibleWord rows h y) (ownWord rows h y) a)) → r ≡ (holds plo phi a || holds wlo whi a) → r ≡ affects rows a y
+      → holds wlo whi a ≡ (holds llo lhi a || anyBelow count (λ h. writesAt rows a (visibleWord rows h y % 64))) → r ≡ (holds plo phi a || holds wlo whi a) → r ≡ affects rows a y
   unfolding affects localTo writesWordOf
   affects-some plo phi slo shi llo lhi wlo whi low high low' high' some locals writers all =
       all
       ∙ ap₂ (λ (b d : Bool). b || d) (ap₂ (λ (u v : ℕ). holds u v a) low high)
-      (writers ∙ ap₂ (λ (b : Bool) (n : ℕ). b || anyBelow n (λ h. writesEither rows (visibleWord rows h y) (ownWord rows h y) a)) (locals ∙ ap₂ (λ (u v : ℕ). holds u v a || anyBelow 128 (λ m. holds u v m && eqb (localOf rows m) a)) low' high') is)
+      (writers ∙ ap₂ (λ (b : Bool) (n : ℕ). b || anyBelow n (λ h. writesAt rows a (visibleWord rows h y % 64))) (locals ∙ ap₂ (λ (u v : ℕ). holds u v a || anyBelow 128 (λ m. holds u v m && eqb (localOf rows m) a)) low' high') is)
       ∙ ap (λ (b : Bool). precedes rows y a || not b && ((bypasses rows y a || localTo rows a y) || writesWordOf rows a y)) (sym (ne-eqb (wordsRead rows y) 0 (λ e. some (is ∙ e))))
 
--- whether an operation writes a word, by the number of its words
-module _ (rows : List ℕ) (a v : ℕ) {first : ℕ} (is : first ≡ writtenWord rows 0 a) {next : ℕ} (next-is : next ≡ writtenBits rows 1 a) where
-  pub writes-alone : next ≡ 0 → eqb first v ≡ writesWord rows a v
-  unfolding writesWord anyBelow
-  writes-alone z = ap (λ (u : ℕ). eqb u v) is ∙ sym (ap (λ (n : ℕ). anyBelow n (λ g. eqb (writtenWord rows g a) v)) (writes-one rows a next-is z))
+-- the sets of the words that an operation writes, by their number
+module _ (rows : List ℕ) (a p k : ℕ) (s : Bool) {first : ℕ} (is : first ≡ writtenWord rows 0 a) {next : ℕ} (next-is : next ≡ writtenBits rows 1 a) {t : Bool}
+    (once : t ≡ (s || (eqb p (first % 64) && eqb k a))) where
+  pub written-one : next ≡ 0 → t ≡ (s || (writesAt rows a p && eqb k a))
+  unfolding writesAt anyBelow
+  written-one z =
+      once ∙ ap (λ (w : ℕ). s || (eqb p (w % 64) && eqb k a)) is
+      ∙ sym (ap (λ (n : ℕ). s || (anyBelow n (λ g. eqb p (writtenWord rows g a % 64)) && eqb k a)) (writes-one rows a next-is z))
 
-  pub writes-next : (next ≡ 0 → ⊥) → {second : ℕ} → second ≡ writtenWord rows 1 a → (eqb first v || eqb second v) ≡ writesWord rows a v
-  unfolding writesWord anyBelow
-  writes-next z e =
-      ap₂ (λ (u w : ℕ). eqb u v || eqb w v) is e ∙ sym (ap (λ (n : ℕ). anyBelow n (λ g. eqb (writtenWord rows g a) v)) (writes-two rows a next-is z))
+  pub written-two : (next ≡ 0 → ⊥) → {second : ℕ} → second ≡ writtenWord rows 1 a → {r : Bool} → r ≡ (t || (eqb p (second % 64) && eqb k a)) → r ≡ (s || (writesAt rows a p && eqb k a))
+  unfolding writesAt anyBelow
+  written-two z {second} e twice =
+      twice ∙ ap (λ (b : Bool). b || (eqb p (second % 64) && eqb k a)) once
+      ∙ both s (eqb p (first % 64)) (eqb p (second % 64)) (eqb k a)
+      ∙ ap₂ (λ (u v : ℕ). s || ((eqb p (u % 64) || eqb p (v % 64)) && eqb k a)) is e
+      ∙ sym (ap (λ (n : ℕ). s || (anyBelow n (λ g. eqb p (writtenWord rows g a % 64)) && eqb k a)) (writes-two rows a next-is z))
+    where
+      both : (s u v e : Bool) → ((s || (u && e)) || (v && e)) ≡ (s || ((u || v) && e))
+      both true u v e = refl
+      both false true true true = refl
+      both false true true false = refl
+      both false true false e = or-false e
+      both false false v e = refl
+
+-- tables of empty sets
+pub empty-at : (n p k : ℕ) → 2 * p + 1 < n → setAt (replicate n 0) p k ≡ false
+empty-at n p k l = ap₂ (λ (u v : ℕ). holds u v k) (getD-replicate n (2 * p) 0 0 (omega arith)) (getD-replicate n (2 * p + 1) 0 0 (omega arith)) ∙ holds-none k
 
 -- those that write one word more
 pub writers-none : (p : ℕ → Bool) (s : Bool) → s ≡ (s || anyBelow 0 p)

@@ -1,5 +1,5 @@
 -- Whom an operation does not affect is enabled behind it as before.
-use Prim.Native.Nat.{ℕ, zero, suc, _<_}
+use Prim.Native.Nat.{ℕ, zero, suc, _%_, _<_}
 use native.Mathlib.Omega.{arith}
 use mathlib.Core.Path.{_≡_, refl, sym, ap, ap₂, _∙_}
 use mathlib.Core.Bool.{Bool, true, false, not, cond, _&&_, _||_, or-false, false≢true}
@@ -15,7 +15,7 @@ use Rattle.base.proofs.Tests.{all-same, any-passes, any-below-same, none-at}
 use Rattle.search_sets.specs.Set.{holds, setAt}
 use Rattle.search_admit.specs.Rows.{precedes, bypasses, writtenWord, wordsWritten, readBits, readData, visibleWord, ownWord, wordsRead, localOf, writesBit, wordsUpTo, wordsWith}
 use Rattle.search_admit.specs.Fits.{bothOrNeither, ready, pending, localBit, wordRecorded, readsRecorded, enabled}
-use Rattle.search_enabled.specs.Affects.{writesWord, writesEither, writesWordOf, localTo, affects, Affecting, enabledAfter}
+use Rattle.search_enabled.specs.Affects.{writesAt, writesWordOf, localTo, affects, Affecting, enabledAfter}
 
 -- what neither of two holds
 neither : (a b : Bool) → (a || b) ≡ false → (a ≡ false) × (b ≡ false)
@@ -58,22 +58,21 @@ module _ (rows : List ℕ) (x y lo hi lo' hi' : ℕ) (more : (k : ℕ) → holds
     local-same h i = any-below-same _ _ 128 (λ m l. ap (λ (b : Bool). b && writesBit rows (visibleWord rows h y) m i) (pending-same m l))
 
     module _ (words : List ℕ) (elsewhere : writesWordOf rows x y ≡ false) where
-      -- the words that y reads
-      unwritten : (h : ℕ) → h < wordsRead rows y → (writesWord rows x (visibleWord rows h y) ≡ false) × (writesWord rows x (ownWord rows h y) ≡ false)
-      unfolding writesWordOf
-      unwritten h l =
-          neither _ _ (none-at (λ j. writesEither rows (visibleWord rows j y) (ownWord rows j y) x) (wordsRead rows y) elsewhere h l)
-
-      same : (v : ℕ) → writesWord rows x v ≡ false → getD (wordsWith rows words x) v 0 ≡ getD words v 0
-      unfolding writesWord
-      same v h = words-other rows words x v (wordsWritten rows x) (λ g l. eqb-false (writtenWord rows g x) v (none-at (λ j. eqb (writtenWord rows j x) v) (wordsWritten rows x) h g l))
+      -- a word for a line that y reads, as its processor sees it
+      same : (h v : ℕ) → h < wordsRead rows y → v % 64 ≡ visibleWord rows h y % 64 → getD (wordsWith rows words x) v 0 ≡ getD words v 0
+      unfolding writesWordOf writesAt
+      same h v l e =
+          words-other rows words x v (wordsWritten rows x) (λ g m is.
+          eqb-false (visibleWord rows h y % 64) (writtenWord rows g x % 64)
+          (none-at (λ j. eqb (visibleWord rows h y % 64) (writtenWord rows j x % 64)) (wordsWritten rows x)
+          (none-at (λ j. writesAt rows x (visibleWord rows j y % 64)) (wordsRead rows y) elsewhere h l) g m)
+          (sym e ∙ ap (λ (w : ℕ). w % 64) (sym is)))
 
       word-same : (h : ℕ) → h < wordsRead rows y → wordRecorded rows lo' hi' (wordsWith rows words x) y h ≡ wordRecorded rows lo hi words y h
       unfolding wordRecorded
       word-same h k =
-          let (visible, own) = unwritten h k in
           all-same _ _ 64 (λ i l.
-          ap₂ (λ (u v : ℕ). not (bit (readBits rows h y) i) || bothOrNeither (cond (localBit rows lo' hi' h y i) (bit u i) (bit v i)) (bit (readData rows h y) i)) (same (ownWord rows h y) own) (same (visibleWord rows h y) visible)
+          ap₂ (λ (u v : ℕ). not (bit (readBits rows h y) i) || bothOrNeither (cond (localBit rows lo' hi' h y i) (bit u i) (bit v i)) (bit (readData rows h y) i)) (same h (ownWord rows h y) k (omega arith)) (same h (visibleWord rows h y) k refl)
           ∙ ap (λ (b : Bool). not (bit (readBits rows h y) i) || bothOrNeither (cond b (bit (getD words (ownWord rows h y) 0) i) (bit (getD words (visibleWord rows h y) 0) i)) (bit (readData rows h y) i)) (local-same h i))
 
       reads-same : readsRecorded rows lo' hi' (wordsWith rows words x) y ≡ readsRecorded rows lo hi words y

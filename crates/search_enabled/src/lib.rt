@@ -1,17 +1,16 @@
 // The operations that are enabled behind a prefix, kept up entry by entry.
 ghost use mathlib.Core.Path.{_≡_};
-ghost use mathlib.Core.Bool.{_&&_, _||_};
-ghost use Prim.Native.Nat.{ℕ, _<_, _≤_};
+ghost use mathlib.Core.Bool.{true, _&&_, _||_};
+ghost use Prim.Native.Nat.{ℕ, _%_, _<_, _≤_};
 ghost use lib.ListN.{length};
 ghost use lib.Dec.{eqb};
 ghost use Rattle.base.specs.Below.{anyBelow};
 ghost use Rattle.search_sets.specs.Set.{holds, setAt};
-ghost use Rattle.search_admit.specs.Rows.{visibleWord, ownWord, localOf, firstWords};
+ghost use Rattle.search_admit.specs.Rows.{visibleWord, localOf, firstWords};
 ghost use Rattle.search_admit.specs.Fits.{enabled, dueAfter};
-ghost use Rattle.search_enabled.specs.Affects.{writesWord, writesEither, affects, Affecting, enabledAfter};
+ghost use Rattle.search_enabled.specs.Affects.{reads, writesAt, Writing, affects, Affecting, enabledAfter};
 use record_decoded::position::Position;
 use record_decoded::types::OperationNo;
-use relation_marks::table::either;
 use search_admit::BYPASSES;
 use search_admit::LOCAL;
 use search_admit::PARTNERS;
@@ -24,7 +23,6 @@ use search_admit::WRITTEN_WORD;
 use search_admit::field_of;
 use search_admit::is_enabled;
 use search_admit::is_enabled_first;
-use search_admit::own_of;
 use search_admit::set_of;
 use search_admit::word_of;
 use search_admit::words_read;
@@ -43,6 +41,9 @@ use search_sets::union;
 // The words of a table of sets, one for each operation.
 pub const AFFECTED: usize = 2 * Position::LIMIT;
 
+// The words of a table of sets, one for each line as a processor sees it: there are half as many of these as words of memory.
+const WRITERS: usize = WORDS;
+
 // A set, with the LVs of stores that are given by their own RVs.
 fn with_locals(set: Set, rows: &[u64; TABLE], stores: Set) -> Set
     ensures { λ r. ⌜ ((a : ℕ) → a < 128 → holds (r .lo) (r .hi) a ≡ (holds (set .lo) (set .hi) a || anyBelow 128 (λ (m : ℕ). holds (stores .lo) (stores .hi) m && eqb (localOf (now (rows .entry)) m) a))) ⌝ }
@@ -58,49 +59,87 @@ fn with_locals(set: Set, rows: &[u64; TABLE], stores: Set) -> Set
     all
 }
 
-// Whether operation a writes a word of memory.
-fn writes_word(rows: &[u64; TABLE], a: OperationNo, word: usize) -> bool
-    requires { ⌜ a .0 < 128 ⌝ }
-    ensures { λ r. ⌜ r ≡ writesWord (now (rows .entry)) (a .0) word ⌝ }
+// Puts operation a into the set of the line and processor that a word of memory is for: of the word that is visible there, and 64 places on of the own stores'.
+fn put_writer(writers: &mut [u64], word: usize, a: OperationNo)
+    requires { ⌜ (word < 128) × (a .0 < 128) × (length (now writers) ≡ 128) ⌝ }
+    ensures { λ _. ⌜ ((p k : ℕ) → setAt (now (writers .exit)) p k ≡ (setAt (now (writers .entry)) p k || (eqb p (word % 64) && eqb k (a .0)))) × (length (now (writers .exit)) ≡ 128) ⌝ }
 {
-    let first = word_of(rows, a, WRITTEN_WORD, 0) == word;
-    if field_of(rows, a, WRITTEN_BITS + 1) == 0 {
-        return first;
-    }
-    either(first, word_of(rows, a, WRITTEN_WORD, 1) == word)
+    let place = word % (WORDS / 2);
+    let set = at(writers, place);
+    put(writers, place, insert(set, a.0));
 }
 
-// A set, with the operations of n that write one of two words.
-fn with_writers(set: Set, n: usize, rows: &[u64; TABLE], visible: usize, own: usize) -> Set
+// Puts operation a into the sets of the words that it writes.
+fn put_written(writers: &mut [u64], rows: &[u64; TABLE], a: OperationNo)
+    requires { ⌜ (a .0 < 128) × (length (now writers) ≡ 128) ⌝ }
+    ensures { λ _. ⌜ ((p k : ℕ) → setAt (now (writers .exit)) p k ≡ (setAt (now (writers .entry)) p k || (writesAt (now (rows .entry)) (a .0) p && eqb k (a .0)))) × (length (now (writers .exit)) ≡ 128) ⌝ }
+{
+    put_writer(writers, word_of(rows, a, WRITTEN_WORD, 0), a);
+    if field_of(rows, a, WRITTEN_BITS + 1) != 0 {
+        put_writer(writers, word_of(rows, a, WRITTEN_WORD, 1), a);
+    }
+}
+
+// For each line and processor the operations of n that write its words.
+fn all_writers(n: usize, rows: &[u64; TABLE]) -> [u64; WRITERS]
     requires { ⌜ n ≤ 128 ⌝ }
-    ensures { λ r. ⌜ ((a : ℕ) → a < n → holds (r .lo) (r .hi) a ≡ (holds (set .lo) (set .hi) a || writesEither (now (rows .entry)) visible own a)) ⌝ }
+    ensures { λ r. ⌜ Writing n (now (rows .entry)) r ⌝ }
 {
-    let mut all = set;
+    let mut writers = [0u64; WRITERS];
     for a in 0..n {
-        let sees = writes_word(rows, OperationNo(a), visible);
-        let writes = either(sees, writes_word(rows, OperationNo(a), own));
-        all = insert_if(all, a, writes);
+        put_written(&mut writers, rows, OperationNo(a));
     }
-    all
+    writers
 }
 
-// A set, with the operations of n that write one of the `count` words that the R y reads.
-fn with_all_writers(set: Set, n: usize, rows: &[u64; TABLE], y: OperationNo, count: usize) -> Set
-    requires { ⌜ (n ≤ 128) × (y .0 < 128) × (count ≤ 2) ⌝ }
-    ensures { λ r. ⌜ ((a : ℕ) → a < n → holds (r .lo) (r .hi) a ≡ (holds (set .lo) (set .hi) a || anyBelow count (λ (h : ℕ). writesEither (now (rows .entry)) (visibleWord (now (rows .entry)) h (y .0)) (ownWord (now (rows .entry)) h (y .0)) a))) ⌝ }
+// Whether one of n operations reads.
+fn any_reads(n: usize, rows: &[u64; TABLE]) -> bool
+    requires { ⌜ n ≤ 128 ⌝ }
+    ensures { λ r. ⌜ r ≡ anyBelow n (λ (y : ℕ). reads (now (rows .entry)) y) ⌝ }
+{
+    for y in 0..n {
+        if words_read(rows, OperationNo(y)) != 0 {
+            return true;
+        }
+    }
+    false
+}
+
+// These sets, if one of n operations reads: for no other are they asked for.
+fn writers_for_reads(n: usize, rows: &[u64; TABLE]) -> [u64; WRITERS]
+    requires { ⌜ n ≤ 128 ⌝ }
+    ensures { λ r. ⌜ ((y : ℕ) → y < n → reads (now (rows .entry)) y ≡ true → Writing n (now (rows .entry)) r) ⌝ }
+{
+    if any_reads(n, rows) {
+        all_writers(n, rows)
+    } else {
+        [0u64; WRITERS]
+    }
+}
+
+// A set, with the operations that write one of the `count` words that the R y reads.
+fn with_writers(
+    set: Set,
+    rows: &[u64; TABLE],
+    writers: &[u64; WRITERS],
+    y: OperationNo,
+    count: usize,
+) -> Set
+    requires { ⌜ (y .0 < 128) × (count ≤ 2) ⌝ }
+    ensures { λ r. ⌜ ((a : ℕ) → holds (r .lo) (r .hi) a ≡ (holds (set .lo) (set .hi) a || anyBelow count (λ (h : ℕ). setAt (now (writers .entry)) (visibleWord (now (rows .entry)) h (y .0) % 64) a))) ⌝ }
 {
     let mut all = set;
     for h in 0..count {
-        let visible = word_of(rows, y, VISIBLE_WORD, h);
-        let own = own_of(visible);
-        all = with_writers(all, n, rows, visible, own);
+        let place = word_of(rows, y, VISIBLE_WORD, h) % (WORDS / 2);
+        let more = at(writers, place);
+        all = union(all, more);
     }
     all
 }
 
 // The operations, of n, that may change whether y is enabled.
-fn all_affecting(n: usize, rows: &[u64; TABLE], y: OperationNo) -> Set
-    requires { ⌜ (n ≤ 128) × (y .0 < 128) ⌝ }
+fn all_affecting(n: usize, rows: &[u64; TABLE], writers: &[u64; WRITERS], y: OperationNo) -> Set
+    requires { ⌜ (n ≤ 128) × (y .0 < 128) × (reads (now rows) (y .0) ≡ true → Writing n (now rows) (now writers)) ⌝ }
     ensures { λ r. ⌜ ((a : ℕ) → a < n → holds (r .lo) (r .hi) a ≡ affects (now (rows .entry)) a (y .0)) ⌝ }
 {
     let preds = set_of(rows, y, PREDS);
@@ -110,7 +149,7 @@ fn all_affecting(n: usize, rows: &[u64; TABLE], y: OperationNo) -> Set
     }
     let stores = set_of(rows, y, BYPASSES);
     let read = with_locals(stores, rows, stores);
-    union(preds, with_all_writers(read, n, rows, y, count))
+    union(preds, with_writers(read, rows, writers, y, count))
 }
 
 // Puts y into the sets of those that affect it.
@@ -132,9 +171,10 @@ pub fn affected_by(n: usize, rows: &[u64; TABLE]) -> [u64; AFFECTED]
     requires { ⌜ n ≤ 128 ⌝ }
     ensures { λ r. ⌜ Affecting n (now (rows .entry)) r ⌝ }
 {
+    let writers = writers_for_reads(n, rows);
     let mut affected = [0u64; AFFECTED];
     for y in 0..n {
-        let affecting = all_affecting(n, rows, OperationNo(y));
+        let affecting = all_affecting(n, rows, &writers, OperationNo(y));
         put_affected(&mut affected, affecting, OperationNo(y));
     }
     affected
@@ -145,9 +185,10 @@ pub fn first_enabled(n: usize, rows: &[u64; TABLE]) -> Set
     requires { ⌜ n ≤ 128 ⌝ }
     ensures { λ r. ⌜ ((y : ℕ) → y < n → holds (r .lo) (r .hi) y ≡ enabled (now (rows .entry)) 0 0 firstWords y) ⌝ }
 {
+    let words = [0u64; WORDS];
     let mut all = Set { lo: 0, hi: 0 };
     for y in 0..n {
-        let now = is_enabled_first(rows, OperationNo(y));
+        let now = is_enabled_first(rows, &words, OperationNo(y));
         all = insert_if(all, y, now);
     }
     all
@@ -182,12 +223,15 @@ pub fn enabled_after(
     all
 }
 
-// Those of them that may follow x as far as rule 12 goes.
+// Those of them that may follow x as far as rule 12 goes. Mostly x has no partners, so that is asked first.
 pub fn open_after(rows: &[u64; TABLE], set: Set, stand: Set, x: OperationNo) -> Set
     requires { ⌜ x .0 < 128 ⌝ }
     ensures { λ r. ⌜ ((y : ℕ) → holds (r .lo) (r .hi) y ≡ (dueAfter (now (rows .entry)) (x .0) (stand .lo) (stand .hi) y && holds (set .lo) (set .hi) y)) ⌝ }
 {
     let partners = set_of(rows, x, PARTNERS);
+    if subset(partners, Set { lo: 0, hi: 0 }) {
+        return set;
+    }
     if subset(partners, stand) {
         set
     } else {

@@ -5,7 +5,7 @@ use native.Mathlib.Numerals.{add-one}
 use mathlib.Core.Path.{_≡_, refl, sym, ap, ap₂, _∙_, subst}
 use mathlib.Core.Bool.{Bool, true, false, not, cond, _&&_, and-false}
 use mathlib.Core.List.{List, [], _∷_, _++_, append-nil}
-use lib.ListN.{length, getD, set, take, drop, replicate, length-set, length-replicate, take-append-drop, drop-of-length-le}
+use lib.ListN.{length, getD, set, take, drop, replicate, length-set, take-append-drop, drop-of-length-le}
 use lib.Seq.{paste, set-getD, take-suc, take-take, take-all}
 use borrow.Author.Tests.{not-true, not-false}
 use Rattle.base.specs.Lists.{member, distinct}
@@ -35,34 +35,34 @@ pub either-long : (b : Bool) (l m : List ℕ) → length l ≡ 128 → length m 
 either-long true l m h k = h
 either-long false l m h k = k
 
--- the sets before any operation
-module _ {n : ℕ} (rows : List ℕ) (few : n ≤ 128) (lo hi : ℕ) (able : (a : ℕ) → a < n → holds lo hi a ≡ enabled rows 0 0 firstWords a) where
-  abbrev none : List ℕ
-  none = replicate 774 0
-
+-- the sets before any operation, in levels at whose front is the empty set
+module _ {n : ℕ} (rows levels : List ℕ) (few : n ≤ 128) (low-none : low levels 0 ≡ 0) (high-none : high levels 0 ≡ 0) (long : length levels ≡ 774) (lo hi : ℕ)
+    (able : (a : ℕ) → a < n → holds lo hi a ≡ enabled rows 0 0 firstWords a) where
   abbrev made : List ℕ
-  made = putAt (putAt none 1 lo hi) 2 lo hi
+  made = putAt (putAt levels 1 lo hi) 2 lo hi
 
   made-low : getD made 0 0 ≡ 0
-  made-low = put-word (putAt none 1 lo hi) 2 lo hi 0 (λ e. omega arith) (λ e. omega arith) ∙ put-word none 1 lo hi 0 (λ e. omega arith) (λ e. omega arith)
+  made-low =
+      put-word (putAt levels 1 lo hi) 2 lo hi 0 (λ e. omega arith) (λ e. omega arith) ∙ put-word levels 1 lo hi 0 (λ e. omega arith) (λ e. omega arith) ∙ low-none
 
   made-high : getD made 1 0 ≡ 0
-  made-high = put-word (putAt none 1 lo hi) 2 lo hi 1 (λ e. omega arith) (λ e. omega arith) ∙ put-word none 1 lo hi 1 (λ e. omega arith) (λ e. omega arith)
+  made-high =
+      put-word (putAt levels 1 lo hi) 2 lo hi 1 (λ e. omega arith) (λ e. omega arith) ∙ put-word levels 1 lo hi 1 (λ e. omega arith) (λ e. omega arith) ∙ high-none
 
   stood-none : (a : ℕ) → stands made 0 a ≡ false
   stood-none a = ap₂ (λ (u v : ℕ). holds u v a) made-low made-high ∙ holds-none a
 
-  one-long : length (putAt none 1 lo hi) ≡ 774
-  one-long = put-length none 1 lo hi ∙ length-replicate {A = ℕ} 774 0
+  one-long : length (putAt levels 1 lo hi) ≡ 774
+  one-long = put-length levels 1 lo hi ∙ long
 
   enables-first : (a : ℕ) → enables made 0 a ≡ holds lo hi a
   enables-first a =
-      put-other (putAt none 1 lo hi) 2 lo hi 1 (λ e. omega arith) a ∙ put-here none 1 lo hi (omega (arith, length-replicate {A = ℕ} 774 0)) a
+      put-other (putAt levels 1 lo hi) 2 lo hi 1 (λ e. omega arith) a ∙ put-here levels 1 lo hi (omega (arith, long)) a
 
   opens-first : (a : ℕ) → opens made 0 a ≡ holds lo hi a
-  opens-first a = put-here (putAt none 1 lo hi) 2 lo hi (omega (arith, one-long)) a
+  opens-first a = put-here (putAt levels 1 lo hi) 2 lo hi (omega (arith, one-long)) a
 
-  pub levels-none : {levels : List ℕ} → levels ≡ made → (position : List ℕ) → Levels n rows position levels 0
+  pub levels-none : {levels' : List ℕ} → levels' ≡ made → (position : List ℕ) → Levels n rows position levels' 0
   unfolding member wordsFrom
   levels-none e position = rw e record {
     stood = λ j a h l. subst (λ (i : ℕ). stands made i a ≡ member (take i position) a) (let z : 0 ≡ j = omega arith in z) (stood-none a);
@@ -87,11 +87,10 @@ kept-none {n} {rows} {entries} few w h = record {
 }
 
 -- The invariant: the first j entries pass, and all is kept of them.
-pub record Replaying (n : ℕ) (rows : List ℕ) (size : ℕ) (given entries places levels words replaced : List ℕ) (j : ℕ) : Type 0 where
+pub record Replaying (n : ℕ) (rows : List ℕ) (size : ℕ) (given places levels words replaced : List ℕ) (j : ℕ) : Type 0 where
   pub few : n ≤ 128
   pub room : size ≤ n
   pub within : j ≤ size
-  pub same : entries ≡ given
   pub whole : length given ≡ 128
   pub long : length places ≡ 128
   pub wide : length words ≡ 128
@@ -99,25 +98,20 @@ pub record Replaying (n : ℕ) (rows : List ℕ) (size : ℕ) (given entries pla
   pub kept : Kept n rows given places levels words replaced j
   pub passes : (c : List ℕ → Bool) → Tested c n rows → Closed c → c [] ≡ true → c (take j given) ≡ true
 
-module _ {n : ℕ} {rows : List ℕ} {size : ℕ} {given entries places levels words replaced : List ℕ} {j : ℕ}
-    (inv : Replaying n rows size given entries places levels words replaced j) where
+module _ {n : ℕ} {rows : List ℕ} {size : ℕ} {given places levels words replaced : List ℕ} {j : ℕ}
+    (inv : Replaying n rows size given places levels words replaced j) where
   -- all entries are made
-  pub replay-done : size ≤ j → Replayed n rows size given true entries places levels words replaced
+  pub replay-done : size ≤ j → Replayed n rows size given true places levels words replaced
   replay-done l =
       let e : j ≡ size = omega (arith, inv .within) in
       record {
-        same = inv .same;
         long = inv .long;
         wide = inv .wide;
-        kept = λ t. subst (λ (k : ℕ). Kept n rows entries places levels words replaced k) e
-            (subst (λ (xs : List ℕ). Kept n rows xs places levels words replaced j) (sym (inv .same)) (inv .kept));
+        kept = λ t. subst (λ (k : ℕ). Kept n rows given places levels words replaced k) e (inv .kept);
         means = λ c tested closed empty. sym (subst (λ (k : ℕ). c (take k given) ≡ true) e (inv .passes c tested closed empty));
       }
 
-  module _ (x : ℕ) (below : j < size) (is : x ≡ getD entries j 0) where
-    x-is : x ≡ getD given j 0
-    x-is = is ∙ ap (λ (xs : List ℕ). getD xs j 0) (inv .same)
-
+  module _ (x : ℕ) (below : j < size) (x-is : x ≡ getD given j 0) where
     inside : j < length given
     inside = omega (arith, inv .few, inv .room, inv .whole)
 
@@ -148,9 +142,8 @@ module _ {n : ℕ} {rows : List ℕ} {size : ℕ} {given entries places levels w
         ap (λ (b : Bool). not b && c (take j given ++ (x ∷ []))) (sym new)
         ∙ open-tells (inv .kept .levelled) (omega arith) x entry-low c tested (inv .passes c tested closed empty) (inv .kept .placed)
 
-    fails : (opens levels j x && not (refused rows places (low levels j) (high levels j) x)) ≡ false → Replayed n rows size given false entries places levels words replaced
+    fails : (opens levels j x && not (refused rows places (low levels j) (high levels j) x)) ≡ false → Replayed n rows size given false places levels words replaced
     fails f = record {
-      same = inv .same;
       long = inv .long;
       wide = inv .wide;
       kept = λ t. clash t refl;
@@ -162,22 +155,21 @@ module _ {n : ℕ} {rows : List ℕ} {size : ℕ} {given entries places levels w
       opened : r ≡ opens levels j x
       opened = has ∙ ap₂ (λ (u v : ℕ). holds u v x) (open-at .0) (open-at .1)
 
-      pub replay-closed : not r ≡ true → Replayed n rows size given false entries places levels words replaced
+      pub replay-closed : not r ≡ true → Replayed n rows size given false places levels words replaced
       replay-closed h = fails (ap (λ (b : Bool). b && not (refused rows places (low levels j) (high levels j) x)) (sym opened ∙ not-true r h))
 
-      module _ {affected : List ℕ} {s : Bool} {entries' places' levels' words' replaced' : List ℕ}
-          (entered : Entered rows affected x j s entries places levels words replaced entries' places' levels' words' replaced') where
-        pub replay-refused : not s ≡ true → Replayed n rows size given false entries' places' levels' words' replaced'
+      module _ {affected : List ℕ} {s : Bool} {places' levels' words' replaced' : List ℕ}
+          (entered : Entered rows affected x j s places levels words replaced places' levels' words' replaced') where
+        pub replay-refused : not s ≡ true → Replayed n rows size given false places' levels' words' replaced'
         replay-refused h =
-            let (a, b, d, e, f) = entered .left (not-true s h) in
-            rw (a, b, d, e, f) (fails (ap (λ (q : Bool). opens levels j x && q) (sym (entered .told) ∙ not-true s h) ∙ and-false (opens levels j x)))
+            let (a, b, d, e) = entered .left (not-true s h) in
+            rw (a, b, d, e) (fails (ap (λ (q : Bool). opens levels j x && q) (sym (entered .told) ∙ not-true s h) ∙ and-false (opens levels j x)))
 
-        pub replay-more : not r ≡ false → not s ≡ false → Affecting n rows affected → Replaying n rows size given entries' places' levels' words' replaced' (j + 1)
-        replay-more h1 h2 affecting-are = let (d, e, f, g, made, full) = entered .made (not-false s h2) in rw (e, f, g) record {
+        pub replay-more : not r ≡ false → not s ≡ false → Affecting n rows affected → Replaying n rows size given places' levels' words' replaced' (j + 1)
+        replay-more h1 h2 affecting-are = let (e, f, g, made, full) = entered .made (not-false s h2) in rw (e, f, g) record {
           few = inv .few;
           room = inv .room;
           within = omega arith;
-          same = d ∙ ap₂ (λ (xs : List ℕ) (o : ℕ). set xs j o) (inv .same) x-is ∙ set-getD given j 0;
           whole = inv .whole;
           long = length-set places x j ∙ inv .long;
           wide = words-length rows words x ∙ inv .wide;

@@ -1,29 +1,26 @@
 -- The ways out of a search from any position: a position that is not consistent, a full one, and the steps.
 use Prim.Native.Nat.{ℕ, _≤_}
 use native.Mathlib.Omega.{arith}
-use mathlib.Core.Path.{_≡_, sym, ap, _∙_, subst}
+use mathlib.Core.Path.{_≡_, sym, ap, _∙_}
 use mathlib.Core.Bool.{Bool, true, false, not}
 use mathlib.Core.List.{List, []}
 use lib.ListN as ListN
-use lib.ListN.{take}
 use lib.Seq.{length-take-le}
 use borrow.Author.Tests.{not-true, not-false}
 use Rattle.base.proofs.Bools.{clash}
 use Rattle.model.specs.Search as model
-use Rattle.search_admit.specs.Fits.{Tested}
-use Rattle.search_walk.specs.Walks.{Closed}
 use Rattle.search_walk.proofs.Gaps.{closed-front}
 use Rattle.record_decoded.specs.declared.position.Position.{Position}
 use Rattle.search_resume.specs.declared.steps.Outcome.{Outcome}
 use Rattle.search_resume.specs.declared.steps.Verdict.the-variants.{Allowed}
 use Rattle.record_decoded.specs.Positions.{positionOf}
-use Rattle.search_resume.specs.Replies.{outcomeOf, verdictMeant}
+use Rattle.search_resume.specs.Replies.{verdictMeant}
 use Rattle.search_resume.specs.Replays.{Replayed}
 use Rattle.search_resume.specs.Outcomes.{Bounded, StepsMade, SearchedFrom}
 use Rattle.search_resume.proofs.Onward.{onward-done}
 
-module _ {n : ℕ} {rows : List ℕ} {given : Position} {ok : Bool} {entries places levels words replaced : List ℕ} (allowance : ℕ) {r : Outcome}
-    (replayed : Replayed n rows (given .length) (given .entries) ok entries places levels words replaced) (room : given .length ≤ n) (whole : ListN.length (given .entries) ≡ 128) where
+module _ {n : ℕ} {rows : List ℕ} {given : Position} {ok : Bool} {places levels words replaced : List ℕ} (allowance : ℕ) {r : Outcome}
+    (replayed : Replayed n rows (given .length) (given .entries) ok places levels words replaced) (room : given .length ≤ n) (whole : ListN.length (given .entries) ≡ 128) where
   bounds : r .position ≡ given → Bounded n r
   bounds p = record { short = omega (arith, ap (λ (q : Position). q .length) p, room); whole = ap (λ (q : Position). ListN.length (q .entries)) p ∙ whole }
 
@@ -44,10 +41,9 @@ module _ {n : ℕ} {rows : List ℕ} {given : Position} {ok : Bool} {entries pla
     bounded = bounds p;
   }
 
-  pub search-from-ran : not ok ≡ false → StepsMade n rows (take (given .length) entries) allowance r → SearchedFrom n rows (positionOf given) allowance r
+  pub search-from-ran : not ok ≡ false → StepsMade n rows (positionOf given) allowance r → SearchedFrom n rows (positionOf given) allowance r
   search-from-ran h ran = record {
     told = λ c tested closed e. ran .told ∙ sym (not-false ok h) ∙ replayed .means c tested closed e;
-    comes = subst (λ (xs : List ℕ). (c : List ℕ → Bool) → Tested c n rows → Closed c → c xs ≡ true → outcomeOf r ≡ model.searchFrom n c xs allowance)
-        (ap (take (given .length)) (replayed .same)) (ran .comes);
+    comes = ran .comes;
     bounded = ran .bounded;
   }

@@ -7,10 +7,9 @@ use lib.ListN.{length, take}
 use Rattle.search_admit.specs.Fits.{Tested}
 use Rattle.search_walk.specs.Walks.{Closed, Kept}
 
--- The entries are as they came. The answer is whether their first `size` pass any test that the rows decide; where they do, all is kept of them.
-pub record Replayed (n : ℕ) (rows : List ℕ) (size : ℕ) (given : List ℕ) (r : Bool) (entries places levels words replaced : List ℕ) : Type 0 where
-  pub same : entries ≡ given
+-- The answer is whether the first `size` entries pass any test that the rows decide; where they do, all is kept of them.
+pub record Replayed (n : ℕ) (rows : List ℕ) (size : ℕ) (entries : List ℕ) (r : Bool) (places levels words replaced : List ℕ) : Type 0 where
   pub long : length places ≡ 128
   pub wide : length words ≡ 128
   pub kept : r ≡ true → Kept n rows entries places levels words replaced size
-  pub means : (c : List ℕ → Bool) → Tested c n rows → Closed c → c [] ≡ true → r ≡ c (take size given)
+  pub means : (c : List ℕ → Bool) → Tested c n rows → Closed c → c [] ≡ true → r ≡ c (take size entries)

@@ -6,7 +6,7 @@ ghost use Prim.Native.Nat.{ℕ, _≤_};
 ghost use lib.ListN.{length, take};
 ghost use Rattle.base.specs.Lists.{distinct};
 ghost use Rattle.search_enabled.specs.Affects.{Affecting};
-ghost use Rattle.search_walk.specs.Walks.{Levels, Kept};
+ghost use Rattle.search_walk.specs.Walks.{levelsLength, low, high, Levels, Kept};
 ghost use Rattle.search_resume.specs.Replays.{Replayed};
 use record_decoded::position::Position;
 use record_decoded::types::OperationNo;
@@ -25,22 +25,20 @@ use search_walk::OPEN;
 use search_walk::SETS;
 use search_walk::enter;
 
-// The sets before any operation.
-pub fn first_level(n: usize, rows: &[u64; TABLE]) -> [u64; LEVELS]
-    requires { ⌜ n ≤ 128 ⌝ }
-    ensures { λ r. ⌜ ((position : List ℕ) → Levels n (now (rows .entry)) position r 0) ⌝ }
+// The sets before any operation, in levels at whose front is the empty set.
+pub fn first_level(n: usize, rows: &[u64; TABLE], levels: &mut [u64])
+    requires { ⌜ (n ≤ 128) × (low (now levels) 0 ≡ 0) × (high (now levels) 0 ≡ 0) × (length (now levels) ≡ levelsLength) ⌝ }
+    ensures { λ _. ⌜ ((position : List ℕ) → Levels n (now (rows .entry)) position (now (levels .exit)) 0) ⌝ }
 {
     let enabled = first_enabled(n, rows);
-    let mut levels = [0u64; LEVELS];
-    put(&mut levels, ENABLED, enabled);
-    put(&mut levels, OPEN, enabled);
-    levels
+    put(levels, ENABLED, enabled);
+    put(levels, OPEN, enabled);
 }
 
 // Whether the first `size` entries, which differ, pass the tests; if so, their places, sets and words are made.
 pub fn replay(
     n: usize,
-    entries: &mut [u8; Position::LIMIT],
+    entries: &[u8; Position::LIMIT],
     size: usize,
     places: &mut [u8; Position::LIMIT],
     levels: &mut [u64; LEVELS],
@@ -51,7 +49,7 @@ pub fn replay(
 ) -> bool
     requires { ⌜ (n ≤ 128) × (size ≤ n) × (distinct n [] (take size (now entries)) ≡ true) × Kept n (now rows) (now entries) (now places) (now levels) (now words) (now replaced) 0 × Affecting n (now rows) (now affected) ⌝ }
     requires { ⌜ (length (now entries) ≡ 128) × (length (now places) ≡ 128) × (length (now words) ≡ 128) ⌝ }
-    ensures { λ r. ⌜ Replayed n (now (rows .entry)) size (now (entries .entry)) r (now (entries .exit)) (now (places .exit)) (now (levels .exit)) (now (words .exit)) (now (replaced .exit)) ⌝ }
+    ensures { λ r. ⌜ Replayed n (now (rows .entry)) size (now (entries .entry)) r (now (places .exit)) (now (levels .exit)) (now (words .exit)) (now (replaced .exit)) ⌝ }
 {
     let mut j = 0;
     while j < size {
@@ -61,7 +59,6 @@ pub fn replay(
             return false;
         }
         if !enter(
-            entries,
             j,
             places,
             levels,

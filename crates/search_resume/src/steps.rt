@@ -62,23 +62,19 @@ fn keep_if(last: bool, entries: &[u8], reached: &mut [u8])
 fn make_steps(
     n: usize,
     given: Position,
-    placed: [u8; Position::LIMIT],
-    sets: [u64; LEVELS],
-    wrote: [u64; WORDS],
-    over: [u64; REPLACED],
+    places: &mut [u8; Position::LIMIT],
+    levels: &mut [u64; LEVELS],
+    words: &mut [u64; WORDS],
+    replaced: &mut [u64; REPLACED],
     allowance: u32,
     rows: &[u64; TABLE],
     affected: &[u64; AFFECTED],
 ) -> Outcome
-    requires { ⌜ (n ≤ 128) × (given .length < n) × Kept n (now rows) (given .entries) placed sets wrote over (given .length) × Affecting n (now rows) (now affected) ⌝ }
-    requires { ⌜ (ListN.length (given .entries) ≡ 128) × (ListN.length placed ≡ 128) × (ListN.length wrote ≡ 128) ⌝ }
+    requires { ⌜ (n ≤ 128) × (given .length < n) × Kept n (now rows) (given .entries) (now places) (now levels) (now words) (now replaced) (given .length) × Affecting n (now rows) (now affected) ⌝ }
+    requires { ⌜ (ListN.length (given .entries) ≡ 128) × (ListN.length (now places) ≡ 128) × (ListN.length (now words) ≡ 128) ⌝ }
     ensures { λ r. ⌜ StepsMade n (now (rows .entry)) (positionOf given) allowance r ⌝ }
 {
     let mut entries = given.entries;
-    let mut places = placed;
-    let mut levels = sets;
-    let mut words = wrote;
-    let mut replaced = over;
     let mut reached = given.entries;
     let mut length = given.length;
     let mut steps: u32 = 0;
@@ -90,10 +86,10 @@ fn make_steps(
             n,
             &mut entries,
             length,
-            &mut places,
-            &mut levels,
-            &mut words,
-            &mut replaced,
+            places,
+            levels,
+            words,
+            replaced,
             rows,
             affected,
         );
@@ -144,15 +140,16 @@ pub fn search_from(
     requires { ⌜ (n ≤ 128) × (given .length ≤ n) × (distinct n [] (positionOf given) ≡ true) × (ListN.length (given .entries) ≡ 128) × Affecting n (now rows) (now affected) ⌝ }
     ensures { λ r. ⌜ SearchedFrom n (now (rows .entry)) (positionOf given) allowance r ⌝ }
 {
-    let mut entries = given.entries;
+    let entries = given.entries;
     let length = given.length;
     let mut places = [ABSENT; Position::LIMIT];
     let mut words = [0u64; WORDS];
-    let mut levels = first_level(n, rows);
+    let mut levels = [0u64; LEVELS];
     let mut replaced = [0u64; REPLACED];
+    first_level(n, rows, &mut levels);
     let consistent = replay(
         n,
-        &mut entries,
+        &entries,
         length,
         &mut places,
         &mut levels,
@@ -167,14 +164,13 @@ pub fn search_from(
     if length == n {
         return without_step(true, Verdict::Allowed, given);
     }
-    let from = Position { length, entries };
     make_steps(
         n,
-        from,
-        places,
-        levels,
-        words,
-        replaced,
+        given,
+        &mut places,
+        &mut levels,
+        &mut words,
+        &mut replaced,
         allowance,
         rows,
         affected,

@@ -28,7 +28,7 @@ use Rattle.search_sets.proofs.Laws.{zero-has}
 use Rattle.search_admit.specs.Rows.{writes, visibleAt, ownAt, covers, dataBit, awaitedBy, bypassOf, RowOf}
 use Rattle.relation_marks.specs.Marks.{markAt}
 use Rattle.relation_marks.proofs.MarkLaws.{overlap-shares}
-use Rattle.search_constraints.specs.Rows.{partnerOf, linkedOf, storesToItsBy}
+use Rattle.search_constraints.specs.Rows.{partnerOf, linkedOf, ownStoreBy}
 use Rattle.search_constraints.proofs.LinkedLaws.{preds-mean}
 use Rattle.search_constraints.proofs.PartnerLaws.{partner-means}
 use Rattle.search_constraints.proofs.OwnedLaws.{each-linked}
@@ -110,7 +110,7 @@ module _ {bytes : List ℕ} {x : Execution} {t : Operations} {marks : List (List
 
   abbrev bypassSome : ℕ → List ℕ → List ℕ → List ℕ → List ℕ → List ℕ → ℕ → ℕ → Bool
   bypassSome role ks fs ps from ss w a =
-      anyBelow (x .instructions .count) (λ v. eqb role 0 && (storesToItsBy ks ps from ss w v && eqb a (numberFrom (getD fs v 0) (kindOf (getD ks v 0)) (RV (getD ps v 0)))))
+      anyBelow (x .instructions .count) (λ v. eqb role 0 && (ownStoreBy ks ps from ss w v && eqb a (numberFrom (getD fs v 0) (kindOf (getD ks v 0)) (RV (getD ps v 0)))))
 
   -- the same by the execution, of the operation's owner
   linked-lent : (w a : ℕ) → w ≡ owner → linkedSome role kinds firsts processors w a ≡ linkedSome role (x .instructions .kinds) (x .instructions .firsts) (x .instructions .processors) owner a
@@ -150,17 +150,17 @@ module _ {bytes : List ℕ} {x : Execution} {t : Operations} {marks : List (List
   RowIs r =
       (row : ℕ → ℕ) (w first processor line : ℕ) (kind : Kind) → w ≡ owner → first ≡ getD firsts w 0 → kind ≡ kindOf (getD kinds w 0) → processor ≡ getD processors w 0
       → line ≡ getD addresses w 0 / 8
-      → ((a : ℕ) → a < 128 → holds (row 0) (row 1) a ≡ linkedSome r kinds firsts processors w a)
+      → ((a : ℕ) → a < 128 → holds (row 9) (row 10) a ≡ linkedSome r kinds firsts processors w a)
       → ((a : ℕ) → a < 128 → holds (row 2) (row 3) a ≡ partnerOf (markAt marks w w) r kind first (x .processors) a)
-      → ((a : ℕ) → a < 128 → holds (row 4) (row 5) a ≡ awaitedSome r kinds firsts processors w a)
-      → ((a : ℕ) → a < 128 → holds (row 6) (row 7) a ≡ bypassSome r kinds firsts processors addresses sizes w a)
+      → ((a : ℕ) → a < 128 → holds (row 0) (row 1) a ≡ awaitedSome r kinds firsts processors w a)
+      → ((a : ℕ) → a < 128 → holds (row 11) (row 12) a ≡ bypassSome r kinds firsts processors addresses sizes w a)
       → (bits saw wrote : ℕ → ℕ) → ((g i : ℕ) → g < 2 → i < 64 → bit (bits g) i ≡ covers x w (64 * g + i)) → ((g i : ℕ) → g < 2 → i < 64 → bit (saw g) i ≡ dataBit bytes x w 0 (64 * g + i))
       → ((g i : ℕ) → g < 2 → i < 64 → bit (wrote g) i ≡ dataBit bytes x w (writtenOf w) (64 * g + i))
       → (writing : Bool) → writing ≡ writes r
-      → row 8 ≡ cond writing (bits 0) 0 → row 9 ≡ cond writing (bits 1) 0 → row 10 ≡ cond writing (wrote 0) 0 → row 11 ≡ cond writing (wrote 1) 0
-      → (writes r ≡ true → row 12 ≡ cond (eqb r 1) (ownAt processor line) (visibleAt (r - 3) line))
-      → row 13 ≡ cond (eqb r 0) (bits 0) 0 → row 14 ≡ cond (eqb r 0) (bits 1) 0 → row 15 ≡ cond (eqb r 0) (saw 0) 0 → row 16 ≡ cond (eqb r 0) (saw 1) 0
-      → row 17 ≡ 8 * processor + line
+      → row 5 ≡ cond writing (bits 0) 0 → row 6 ≡ cond writing (bits 1) 0 → row 7 ≡ cond writing (wrote 0) 0 → row 8 ≡ cond writing (wrote 1) 0
+      → (writes r ≡ true → row 4 ≡ cond (eqb r 1) (ownAt processor line) (visibleAt (r - 3) line))
+      → row 14 ≡ cond (eqb r 0) (bits 0) 0 → row 15 ≡ cond (eqb r 0) (bits 1) 0 → row 16 ≡ cond (eqb r 0) (saw 0) 0 → row 17 ≡ cond (eqb r 0) (saw 1) 0
+      → row 13 ≡ 8 * processor + line
       → (own-rv lv : ℕ) → own-rv ≡ numberFrom first kind (RV processor) → lv ≡ numberFrom first kind LV
       → row 18 ≡ cond writing own-rv o → row 19 ≡ cond writing lv o
       → row 20 ≡ cond (writing && isSemaphore kind) (numberFrom first kind R) o
@@ -168,17 +168,17 @@ module _ {bytes : List ℕ} {x : Execution} {t : Operations} {marks : List (List
 
   row-by-role : RowIs role
   unfolding instructionAt
-  row-by-role row w first processor line kind iw isf isk ip il preds partners awaited bypasses bits saw wrote bits-are saw-are wrote-are writing wr r8 r9 r10 r11 r12 r13 r14 r15 r16 r17 own-rv lv irv ilv r18 r19 r20 = record {
+  row-by-role row w first processor line kind iw isf isk ip il preds partners awaited bypasses bits saw wrote bits-are saw-are wrote-are writing wr r5 r6 r7 r8 r4 r14 r15 r16 r17 r13 own-rv lv irv ilv r18 r19 r20 = record {
     preds-are = λ a l. preds a l ∙ linked-lent w a iw ∙ each-linked h o a ∙ preds-mean h accepted o a there ∙ ap (λ (n : ℕ). ltb a n && linked (executionOf bytes x) (operationAt (x .instructions) t a) (operationAt (x .instructions) t o)) (h .tabled .counts);
     partners-are = λ a l. partners a l ∙ ap₂ (λ (v f : ℕ). partnerOf (markAt marks v v) role kind f (x .processors) a) iw first-is ∙ ap (λ (k : Kind). partnerOf (markAt marks owner owner) role k (getD (x .instructions .firsts) owner 0) (x .processors) a) kind-is ∙ partner-means h accepted o there a;
     awaited-are = λ a l. awaited a l ∙ awaited-lent w a iw;
     bypasses-are = λ a l. bypasses a l ∙ bypass-lent w a iw ∙ bypass-means a;
-    writes-bits = λ g i m l. ap (λ (v : ℕ). bit v i) (each-word (λ j. row (8 + j) ≡ cond writing (bits j) 0) r8 r9 g m) ∙ wanted-bit writing (covers x w (64 * g + i)) (bits g) i (bits-are g i m l) ∙ ap₂ (λ (b : Bool) (v : ℕ). b && covers x v (64 * g + i)) wr iw;
-    writes-data = λ g i m l. ap (λ (v : ℕ). bit v i) (each-word (λ j. row (10 + j) ≡ cond writing (wrote j) 0) r10 r11 g m) ∙ wanted-bit writing (dataBit bytes x w (writtenOf w) (64 * g + i)) (wrote g) i (wrote-are g i m l) ∙ ap₂ (λ (b : Bool) (v : ℕ). b && dataBit bytes x v (writtenOf v) (64 * g + i)) wr iw;
-    writes-word = λ u. r12 u ∙ ap₂ (λ (p l : ℕ). cond (eqb role 1) (ownAt p l) (visibleAt (role - 3) l)) processor-is line-is;
-    reads-bits = λ g i m l. ap (λ (v : ℕ). bit v i) (each-word (λ j. row (13 + j) ≡ cond (eqb role 0) (bits j) 0) r13 r14 g m) ∙ wanted-bit (eqb role 0) (covers x w (64 * g + i)) (bits g) i (bits-are g i m l) ∙ ap (λ (v : ℕ). eqb role 0 && covers x v (64 * g + i)) iw;
-    reads-data = λ g i m l. ap (λ (v : ℕ). bit v i) (each-word (λ j. row (15 + j) ≡ cond (eqb role 0) (saw j) 0) r15 r16 g m) ∙ wanted-bit (eqb role 0) (dataBit bytes x w 0 (64 * g + i)) (saw g) i (saw-are g i m l) ∙ ap (λ (v : ℕ). eqb role 0 && dataBit bytes x v 0 (64 * g + i)) iw;
-    reads-visible = λ u. r17 ∙ ap₂ visibleAt processor-is line-is;
+    writes-bits = λ g i m l. ap (λ (v : ℕ). bit v i) (each-word (λ j. row (5 + j) ≡ cond writing (bits j) 0) r5 r6 g m) ∙ wanted-bit writing (covers x w (64 * g + i)) (bits g) i (bits-are g i m l) ∙ ap₂ (λ (b : Bool) (v : ℕ). b && covers x v (64 * g + i)) wr iw;
+    writes-data = λ g i m l. ap (λ (v : ℕ). bit v i) (each-word (λ j. row (7 + j) ≡ cond writing (wrote j) 0) r7 r8 g m) ∙ wanted-bit writing (dataBit bytes x w (writtenOf w) (64 * g + i)) (wrote g) i (wrote-are g i m l) ∙ ap₂ (λ (b : Bool) (v : ℕ). b && dataBit bytes x v (writtenOf v) (64 * g + i)) wr iw;
+    writes-word = λ u. r4 u ∙ ap₂ (λ (p l : ℕ). cond (eqb role 1) (ownAt p l) (visibleAt (role - 3) l)) processor-is line-is;
+    reads-bits = λ g i m l. ap (λ (v : ℕ). bit v i) (each-word (λ j. row (14 + j) ≡ cond (eqb role 0) (bits j) 0) r14 r15 g m) ∙ wanted-bit (eqb role 0) (covers x w (64 * g + i)) (bits g) i (bits-are g i m l) ∙ ap (λ (v : ℕ). eqb role 0 && covers x v (64 * g + i)) iw;
+    reads-data = λ g i m l. ap (λ (v : ℕ). bit v i) (each-word (λ j. row (16 + j) ≡ cond (eqb role 0) (saw j) 0) r16 r17 g m) ∙ wanted-bit (eqb role 0) (dataBit bytes x w 0 (64 * g + i)) (saw g) i (saw-are g i m l) ∙ ap (λ (v : ℕ). eqb role 0 && dataBit bytes x v 0 (64 * g + i)) iw;
+    reads-visible = λ u. r13 ∙ ap₂ visibleAt processor-is line-is;
     own-is = r18 ∙ ap₂ (λ (b : Bool) (n : ℕ). cond b n o) wr (irv ∙ ap₂ (λ (f p : ℕ). numberFrom f kind (RV p)) first-is processor-is ∙ ap (λ (k : Kind). numberFrom (getD (x .instructions .firsts) owner 0) k (RV (getD (x .instructions .processors) owner 0))) kind-is);
     local-is = r19 ∙ ap₂ (λ (b : Bool) (n : ℕ). cond b n o) wr (ilv ∙ ap₂ (λ (f : ℕ) (k : Kind). numberFrom f k LV) first-is kind-is);
     read-is = r20 ∙ ap₂ (λ (b : Bool) (f : ℕ). cond (b && isSemaphore kind) (numberFrom f kind R) o) wr first-is

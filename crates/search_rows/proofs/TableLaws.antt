@@ -42,16 +42,16 @@ put-done {before} {row} {at} {j} {after} inv e = subst (λ (k : ℕ). Put before
 -- the same row by another name
 row-same : {bytes : List ℕ} {x : Execution} {t : Operations} {marks : List (List ℕ)} {o : ℕ} (row row' : ℕ → ℕ) → ((f : ℕ) → f < 21 → row' f ≡ row f) → RowOf x t marks o bytes row → RowOf x t marks o bytes row'
 row-same row row' e r = record {
-  preds-are = λ a l. ap₂ (λ (u v : ℕ). holds u v a) (e 0 (omega arith)) (e 1 (omega arith)) ∙ r .preds-are a l;
+  preds-are = λ a l. ap₂ (λ (u v : ℕ). holds u v a) (e 9 (omega arith)) (e 10 (omega arith)) ∙ r .preds-are a l;
   partners-are = λ a l. ap₂ (λ (u v : ℕ). holds u v a) (e 2 (omega arith)) (e 3 (omega arith)) ∙ r .partners-are a l;
-  awaited-are = λ a l. ap₂ (λ (u v : ℕ). holds u v a) (e 4 (omega arith)) (e 5 (omega arith)) ∙ r .awaited-are a l;
-  bypasses-are = λ a l. ap₂ (λ (u v : ℕ). holds u v a) (e 6 (omega arith)) (e 7 (omega arith)) ∙ r .bypasses-are a l;
-  writes-bits = λ h i g l. ap (λ (u : ℕ). bit u i) (e (8 + h) (omega arith)) ∙ r .writes-bits h i g l;
-  writes-data = λ h i g l. ap (λ (u : ℕ). bit u i) (e (10 + h) (omega arith)) ∙ r .writes-data h i g l;
-  writes-word = λ w. e 12 (omega arith) ∙ r .writes-word w;
-  reads-bits = λ h i g l. ap (λ (u : ℕ). bit u i) (e (13 + h) (omega arith)) ∙ r .reads-bits h i g l;
-  reads-data = λ h i g l. ap (λ (u : ℕ). bit u i) (e (15 + h) (omega arith)) ∙ r .reads-data h i g l;
-  reads-visible = λ w. e 17 (omega arith) ∙ r .reads-visible w;
+  awaited-are = λ a l. ap₂ (λ (u v : ℕ). holds u v a) (e 0 (omega arith)) (e 1 (omega arith)) ∙ r .awaited-are a l;
+  bypasses-are = λ a l. ap₂ (λ (u v : ℕ). holds u v a) (e 11 (omega arith)) (e 12 (omega arith)) ∙ r .bypasses-are a l;
+  writes-bits = λ h i g l. ap (λ (u : ℕ). bit u i) (e (5 + h) (omega arith)) ∙ r .writes-bits h i g l;
+  writes-data = λ h i g l. ap (λ (u : ℕ). bit u i) (e (7 + h) (omega arith)) ∙ r .writes-data h i g l;
+  writes-word = λ w. e 4 (omega arith) ∙ r .writes-word w;
+  reads-bits = λ h i g l. ap (λ (u : ℕ). bit u i) (e (14 + h) (omega arith)) ∙ r .reads-bits h i g l;
+  reads-data = λ h i g l. ap (λ (u : ℕ). bit u i) (e (16 + h) (omega arith)) ∙ r .reads-data h i g l;
+  reads-visible = λ w. e 13 (omega arith) ∙ r .reads-visible w;
   own-is = e 18 (omega arith) ∙ r .own-is;
   local-is = e 19 (omega arith) ∙ r .local-is;
   read-is = e 20 (omega arith) ∙ r .read-is;

@@ -32,12 +32,17 @@ use record_decoded::types::wide16;
 use relation_links::operations::Operations;
 use relation_marks::table::both;
 use search_admit::ROW;
-use search_admit::TwoWords;
 use search_admit::WORDS;
 use search_constraints::awaited_at;
 use search_constraints::bypasses_at;
 use search_constraints::partners_at;
 use search_constraints::preds_at;
+
+// The words of an access in its line and in the next.
+pub struct TwoWords {
+    pub first: u64,
+    pub next: u64,
+}
 
 // Whether an operation with a role writes: an LV or an RV.
 fn is_writing(role: u8) -> bool
@@ -195,24 +200,24 @@ pub fn row_of<'a>(
     let local_number = local.0 as u64;
     let read_number = read.0 as u64;
     [
-        preds.lo,
-        preds.hi,
-        partners.lo,
-        partners.hi,
         awaited.lo,
         awaited.hi,
-        bypasses.lo,
-        bypasses.hi,
+        partners.lo,
+        partners.hi,
+        written_word,
         written_bits.first,
         written_bits.next,
         written_data.first,
         written_data.next,
-        written_word,
+        preds.lo,
+        preds.hi,
+        bypasses.lo,
+        bypasses.hi,
+        visible_word,
         read_bits.first,
         read_bits.next,
         read_data.first,
         read_data.next,
-        visible_word,
         own_number,
         local_number,
         read_number,

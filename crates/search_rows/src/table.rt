@@ -9,7 +9,8 @@ ghost use Rattle.search_admit.specs.Rows.{rowLength, tableLength, Bytes, RowsMe
 ghost use Rattle.search_rows.specs.Puts.{Put};
 use crate::line::known_bytes;
 use crate::row::row_of;
-use crate::words::access_words;
+use crate::words::ACCESS_WORDS;
+use crate::words::put_words;
 use record_decoded::types::Execution;
 use record_decoded::types::MOST_INSTRUCTIONS;
 use record_decoded::types::OperationNo;
@@ -56,10 +57,10 @@ pub fn put_rows(
     let processors = is.processors;
     let addresses = is.addresses;
     let sizes = is.sizes;
-    let words = access_words(bytes, x);
-    let bits = words.bits;
-    let seen = words.seen;
-    let written = words.written;
+    let mut bits = [0u64; ACCESS_WORDS];
+    let mut seen = [0u64; ACCESS_WORDS];
+    let mut written = [0u64; ACCESS_WORDS];
+    put_words(bytes, x, &mut bits, &mut seen, &mut written);
     for o in 0..n {
         let row = row_of(
             x,

@@ -2,6 +2,7 @@
 // bytes. Of an access that stays in its line those of the next are 0.
 ghost use mathlib.Core.Path.{_≡_};
 ghost use Prim.Native.Nat.{ℕ, _+_, _*_, _-_, _%_, _<_, _≤_};
+ghost use lib.ListN.{length};
 ghost use Rattle.base.specs.Bits.{bit};
 ghost use Rattle.model.specs.Questions.{writtenFrom};
 ghost use Rattle.record_decoded.specs.Kinds.{meant};
@@ -19,12 +20,6 @@ use record_decoded::types::MOST_INSTRUCTIONS;
 use record_decoded::types::wide;
 
 pub const ACCESS_WORDS: usize = 2 * MOST_INSTRUCTIONS;
-
-pub struct AccessWords {
-    pub bits: [u64; ACCESS_WORDS],
-    pub seen: [u64; ACCESS_WORDS],
-    pub written: [u64; ACCESS_WORDS],
-}
 
 // Three words of one line.
 pub struct LineWords {
@@ -118,10 +113,17 @@ fn line_words(
     }
 }
 
-// The words of each instruction.
-pub fn access_words(bytes: &[u8], x: Execution) -> AccessWords
+// Puts in the words of each instruction.
+pub fn put_words(
+    bytes: &[u8],
+    x: Execution,
+    bits: &mut [u64],
+    seen: &mut [u64],
+    written: &mut [u64],
+)
     requires { ⌜ (x .instructions .count ≤ 40) × (x .lines .count ≤ 8) × ((w : ℕ) → w < x .instructions .count → InLines (x .instructions) w) ⌝ }
-    ensures { λ r. ⌜ CoveredBits x (r .bits) × RelativeValues (now (bytes .entry)) x (r .seen) (r .written) ⌝ }
+    requires { ⌜ (length (now bits) ≡ 80) × (length (now seen) ≡ 80) × (length (now written) ≡ 80) ⌝ }
+    ensures { λ _. ⌜ CoveredBits x (now (bits .exit)) × RelativeValues (now (bytes .entry)) x (now (seen .exit)) (now (written .exit)) ⌝ }
 {
     let lines = x.lines;
     let count = lines.count;
@@ -131,9 +133,6 @@ pub fn access_words(bytes: &[u8], x: Execution) -> AccessWords
     let addresses = is.addresses;
     let sizes = is.sizes;
     let data = is.bytes;
-    let mut bits = [0u64; ACCESS_WORDS];
-    let mut seen = [0u64; ACCESS_WORDS];
-    let mut written = [0u64; ACCESS_WORDS];
     let all = 2 * n;
     for j in 0..all {
         let w = j / 2;
@@ -153,10 +152,5 @@ pub fn access_words(bytes: &[u8], x: Execution) -> AccessWords
         bits[j] = words.bits;
         seen[j] = words.seen;
         written[j] = words.written;
-    }
-    AccessWords {
-        bits,
-        seen,
-        written,
     }
 }

@@ -9,7 +9,7 @@ use mathlib.Core.Logic.{_⊎_, inl, inr, ⊎-elim}
 use lib.Seq.{append-snoc}
 use Rattle.base.specs.Lists.{member, distinct}
 use Rattle.base.specs.Lex.{Less}
-use Rattle.base.proofs.Bools.{and-parts, and-both, clash}
+use Rattle.base.proofs.Bools.{and-both, clash}
 use Rattle.base.proofs.Lists.{distinct-entry}
 use Rattle.base.proofs.Lex.{less-cases, less-head, less-nil, less-total}
 use Rattle.search_walk.specs.Walks.{Closed, Passes, IsNext, IsLast}

@@ -36,11 +36,11 @@ pub record From (n : ℕ) (rows xs : List ℕ) (size : ℕ) (position levels : L
   pub whole : length position ≡ 128
 
 -- The invariant: c is the next candidate at level k, and nothing that passes lies between xs and it.
-pub record Search (n : ℕ) (rows xs : List ℕ) (size : ℕ) (position places levels words replaced : List ℕ) (lo hi k c turn : ℕ) : Type 0 where
+pub record Search (n : ℕ) (rows xs : List ℕ) (size : ℕ) (position places levels words replaced : List ℕ) (lo hi k c left : ℕ) : Type 0 where
   pub from : From n rows xs size position levels
   pub within : k ≤ size
   pub bounded : c ≤ n
-  pub turns : turn + (k * n + (n - c)) ≤ n * n
+  pub turns : k * n + (n - c) ≤ left
   pub open-at : (lo ≡ getD levels (2 * (3 * k + 2)) 0) × (hi ≡ getD levels (2 * (3 * k + 2) + 1) 0)
   pub places-hold : Placed n (take k position) places
   pub long : length places ≡ 128
@@ -86,7 +86,7 @@ module _ {n : ℕ} {rows position levels : List ℕ} {size : ℕ} (h : Levels n 
 pub search-starts : {n : ℕ} {rows xs : List ℕ} {size : ℕ} {position places levels words replaced : List ℕ} {lo hi : ℕ}
     → From n rows xs size position levels → Kept n rows position places levels words replaced size → length places ≡ 128 → length words ≡ 128
     → (lo ≡ getD levels (2 * (3 * size + 2)) 0) × (hi ≡ getD levels (2 * (3 * size + 2) + 1) 0)
-    → Search n rows xs size position places levels words replaced lo hi size 0 0
+    → Search n rows xs size position places levels words replaced lo hi size 0 (n * n)
 search-starts {n} {rows} {xs} {size} {position} {places} from h l w s = record {
   from = from;
   within = omega arith;
@@ -101,8 +101,8 @@ search-starts {n} {rows} {xs} {size} {position} {places} from h l w s = record {
   gap = λ p tested closed passes. subst (λ (ys : List ℕ). Gap p n xs (ys ++ 0 ∷ [])) (sym (from .start)) (gap-starts p n xs);
 }
 
-module _ {n : ℕ} {rows xs : List ℕ} {size : ℕ} {position places levels words replaced : List ℕ} {lo hi k c turn : ℕ}
-    (at : Search n rows xs size position places levels words replaced lo hi k c turn) where
+module _ {n : ℕ} {rows xs : List ℕ} {size : ℕ} {position places levels words replaced : List ℕ} {lo hi k c left : ℕ}
+    (at : Search n rows xs size position places levels words replaced lo hi k c left) where
   -- with xs its first k entries pass
   front : (p : List ℕ → Bool) → Closed p → p xs ≡ true → p (take k position) ≡ true
   front p closed passes =
@@ -123,7 +123,7 @@ module _ {n : ℕ} {rows xs : List ℕ} {size : ℕ} {position places levels wor
 
   -- candidates that are not open are passed by
   pub search-to : (y : ℕ) → c ≤ y → y ≤ n → ((i : ℕ) → c ≤ i → i < y → holds lo hi i ≡ false)
-      → Search n rows xs size position places levels words replaced lo hi k y turn
+      → Search n rows xs size position places levels words replaced lo hi k y left
   search-to y l few none = record {
     from = at .from;
     within = at .within;
@@ -145,7 +145,7 @@ module _ {n : ℕ} {rows xs : List ℕ} {size : ℕ} {position places levels wor
 
   -- the candidate is refused
   pub search-on : c < n → refused rows places (low levels k) (high levels k) c ≡ true
-      → Search n rows xs size position places levels words replaced lo hi k (c + 1) (turn + 1)
+      → Search n rows xs size position places levels words replaced lo hi k (c + 1) (left - 1)
   search-on l is = record {
     from = at .from;
     within = at .within;
@@ -175,12 +175,12 @@ module _ {n : ℕ} {rows xs : List ℕ} {size : ℕ} {position places levels wor
 
     -- no candidate is left at this level: the last entry is taken away
     pub search-up : (s : Set) → n ≤ c → (s .lo ≡ getD levels (2 * (3 * j + 2)) 0) × (s .hi ≡ getD levels (2 * (3 * j + 2) + 1) 0)
-        → Search n rows xs size position (set places last 255) levels (wordsWithout rows words replaced j last) replaced (s .lo) (s .hi) j (last + 1) (turn + 1)
+        → Search n rows xs size position (set places last 255) levels (wordsWithout rows words replaced j last) replaced (s .lo) (s .hi) j (last + 1) (left - 1)
     search-up s none-left open-at = record {
       from = at .from;
       within = omega (arith, at .within);
       bounded = omega (arith, last-below);
-      turns = omega (arith, last-below, subst (λ (i : ℕ). turn + (i * n + (n - c)) ≤ n * n) (sym level) (at .turns));
+      turns = omega (arith, last-below, subst (λ (i : ℕ). i * n + (n - c) ≤ left) (sym level) (at .turns));
       open-at = open-at;
       places-hold = placed-less n (take j position) last places (at .long) (subst (λ (ys : List ℕ). Placed n ys places) shorter (at .places-hold));
       long = length-set places last 255 ∙ at .long;
@@ -207,7 +207,7 @@ module _ {n : ℕ} {rows xs : List ℕ} {size : ℕ} {position places levels wor
       point = ap₂ (λ (i o : ℕ). take i position ++ o ∷ []) z (omega (arith, at .bounded))
 
   -- no turn is left
-  pub search-spent : {position' places' levels' words' replaced' : List ℕ} → n * n ≤ turn → Walked n rows xs End position' places' levels' words' replaced'
+  pub search-spent : {position' places' levels' words' replaced' : List ℕ} → left ≡ 0 → Walked n rows xs End position' places' levels' words' replaced'
   search-spent h = search-ends (no-level k (omega (arith, at .turns))) (omega (arith, at .turns))
     where
       no-level : (j : ℕ) → j * n ≡ 0 → j ≡ 0
@@ -253,7 +253,7 @@ module _ {n : ℕ} {rows xs : List ℕ} {size : ℕ} {position places levels wor
       stands-placed = placed-more position k c inside n places (at .long) (at .places-hold) l new
 
 -- the same point, by other names
-pub search-same : {n : ℕ} {rows xs : List ℕ} {size : ℕ} {position position' places places' levels levels' words words' replaced replaced' : List ℕ} {s s' : Set} {k k' c c' turn : ℕ}
-    → Search n rows xs size position places levels words replaced (s .lo) (s .hi) k c turn → position' ≡ position → places' ≡ places → levels' ≡ levels → words' ≡ words → replaced' ≡ replaced
-    → k' ≡ k → c' ≡ c → s' ≡ s → Search n rows xs size position' places' levels' words' replaced' (s' .lo) (s' .hi) k' c' turn
+pub search-same : {n : ℕ} {rows xs : List ℕ} {size : ℕ} {position position' places places' levels levels' words words' replaced replaced' : List ℕ} {s s' : Set} {k k' c c' left : ℕ}
+    → Search n rows xs size position places levels words replaced (s .lo) (s .hi) k c left → position' ≡ position → places' ≡ places → levels' ≡ levels → words' ≡ words → replaced' ≡ replaced
+    → k' ≡ k → c' ≡ c → s' ≡ s → Search n rows xs size position' places' levels' words' replaced' (s' .lo) (s' .hi) k' c' left
 search-same at o p l w r k c s = rw (o, p, l, w, r, k, c, s) at

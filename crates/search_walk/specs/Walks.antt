@@ -54,13 +54,13 @@ pub record Level (rows affected words : List ℕ) (x k : ℕ) (levels levels' : 
       ≡ enabledAfter rows affected words (getD levels (2 * (3 * k + 1)) 0) (getD levels (2 * (3 * k + 1) + 1) 0) (low levels' (k + 1)) (high levels' (k + 1)) x a
   pub opens-more : (a : ℕ) → opens levels' (k + 1) a ≡ (dueAfter rows x (low levels' (k + 1)) (high levels' (k + 1)) a && enables levels' (k + 1) a)
 
--- Operation x as the entry at k, where it is not refused; else all as it was.
-pub record Entered (rows affected : List ℕ) (x k : ℕ) (r : Bool) (position places levels words replaced position' places' levels' words' replaced' : List ℕ) : Type 0 where
+-- Operation x at the place k, where it is not refused; else all as it was.
+pub record Entered (rows affected : List ℕ) (x k : ℕ) (r : Bool) (places levels words replaced places' levels' words' replaced' : List ℕ) : Type 0 where
   pub told : r ≡ not (refused rows places (low levels k) (high levels k) x)
   pub made : r ≡ true
-      → (position' ≡ set position k x) × (places' ≡ set places x k) × (words' ≡ wordsWith rows words x)
+      → (places' ≡ set places x k) × (words' ≡ wordsWith rows words x)
       × (replaced' ≡ replacedWith rows words replaced k x) × Level rows affected words' x k levels levels' × (length replaced ≡ 256)
-  pub left : r ≡ false → (position' ≡ position) × (places' ≡ places) × (levels' ≡ levels) × (words' ≡ words) × (replaced' ≡ replaced)
+  pub left : r ≡ false → (places' ≡ places) × (levels' ≡ levels) × (words' ≡ words) × (replaced' ≡ replaced)
 
 -- the words are those after the first `size` entries, and for each of these the words that it wrote over are kept
 pub record Remembered (rows position words replaced : List ℕ) (size : ℕ) : Type 0 where

@@ -4,7 +4,7 @@ ghost use Prim.Native.Nat.{_+_, _*_, _<_, _≤_};
 ghost use lib.ListN.{length, getD, set, take};
 ghost use Rattle.search_admit.specs.Rows.{wordsWith, replacedWith, wordsWithout};
 ghost use Rattle.search_enabled.specs.Affects.{Affecting};
-ghost use Rattle.search_walk.specs.Walks.{levelsLength, Level, Entered, Kept, Walked};
+ghost use Rattle.search_walk.specs.Walks.{levelsLength, low, high, Level, Entered, Kept, Walked};
 use record_decoded::position::Position;
 use record_decoded::types::OperationNo;
 use record_decoded::types::wide;
@@ -18,6 +18,7 @@ use search_admit::write;
 use search_enabled::AFFECTED;
 use search_enabled::enabled_after;
 use search_enabled::open_after;
+use search_sets::Set;
 use search_sets::at;
 use search_sets::first;
 use search_sets::insert;
@@ -39,19 +40,20 @@ pub const OPEN: usize = 2;
 // The words of the sets of all levels: one level for each number of entries, two words a set.
 pub const LEVELS: usize = 2 * SETS * (Position::LIMIT + 1);
 
-// Makes the sets of level k + 1 from those of level k, x being the entry at k.
+// Makes the sets of level k + 1 from those of level k, of which those that stand are given, x being the entry at k.
 fn add_level(
     levels: &mut [u64],
     k: usize,
+    standing: Set,
     words: &[u64; WORDS],
     rows: &[u64; TABLE],
     affected: &[u64; AFFECTED],
     x: OperationNo,
 )
-    requires { ⌜ (k < 128) × (x .0 < 128) × (length (now levels) ≡ levelsLength) ⌝ }
+    requires { ⌜ (k < 128) × (x .0 < 128) × (length (now levels) ≡ levelsLength) × (standing .lo ≡ low (now levels) k) × (standing .hi ≡ high (now levels) k) ⌝ }
     ensures { λ _. ⌜ Level (now (rows .entry)) (now (affected .entry)) (now (words .entry)) (x .0) k (now (levels .entry)) (now (levels .exit)) ⌝ }
 {
-    let stand = insert(at(levels, SETS * k), x.0);
+    let stand = insert(standing, x.0);
     let before = at(levels, SETS * k + ENABLED);
     let enabled = enabled_after(rows, affected, words, before, stand, x);
     let open = open_after(rows, enabled, stand, x);
@@ -61,31 +63,29 @@ fn add_level(
     put(levels, level + OPEN, open);
 }
 
-// Operation x as the entry at k, k as its place, what it writes, and the sets of the level behind it.
+// k as the place of operation x, what x writes, and the sets of the level behind it.
 fn add_entry(
-    position: &mut [u8],
     k: usize,
     places: &mut [u8],
     levels: &mut [u64],
+    standing: Set,
     words: &mut [u64; WORDS],
     replaced: &mut [u64],
     rows: &[u64; TABLE],
     affected: &[u64; AFFECTED],
     x: OperationNo,
 )
-    requires { ⌜ (k < 128) × (x .0 < 128) × (length (now position) ≡ 128) × (length (now places) ≡ 128) × (length (now levels) ≡ levelsLength) × (length (now words) ≡ 128) × (length (now replaced) ≡ 256) ⌝ }
-    ensures { λ r. ⌜ (now (position .exit) ≡ set (now (position .entry)) k (x .0)) × (now (places .exit) ≡ set (now (places .entry)) (x .0) k) × (now (words .exit) ≡ wordsWith (now (rows .entry)) (now (words .entry)) (x .0)) × (now (replaced .exit) ≡ replacedWith (now (rows .entry)) (now (words .entry)) (now (replaced .entry)) k (x .0)) × Level (now (rows .entry)) (now (affected .entry)) (now (words .exit)) (x .0) k (now (levels .entry)) (now (levels .exit)) ⌝ }
+    requires { ⌜ (k < 128) × (x .0 < 128) × (length (now places) ≡ 128) × (length (now levels) ≡ levelsLength) × (standing .lo ≡ low (now levels) k) × (standing .hi ≡ high (now levels) k) × (length (now words) ≡ 128) × (length (now replaced) ≡ 256) ⌝ }
+    ensures { λ _. ⌜ (now (places .exit) ≡ set (now (places .entry)) (x .0) k) × (now (words .exit) ≡ wordsWith (now (rows .entry)) (now (words .entry)) (x .0)) × (now (replaced .exit) ≡ replacedWith (now (rows .entry)) (now (words .entry)) (now (replaced .entry)) k (x .0)) × Level (now (rows .entry)) (now (affected .entry)) (now (words .exit)) (x .0) k (now (levels .entry)) (now (levels .exit)) ⌝ }
 {
     let o = x.0;
-    position[k] = o as u8;
     places[o] = k as u8;
     write(rows, words, replaced, k, x);
-    add_level(levels, k, words, rows, affected, x);
+    add_level(levels, k, standing, words, rows, affected, x);
 }
 
-// Operation x, which is open at level k, as the entry at k, if it is not refused.
+// Operation x, which is open at level k, at the place k, if it is not refused. The entry itself is the caller's to write.
 pub fn enter(
-    position: &mut [u8; Position::LIMIT],
     k: usize,
     places: &mut [u8; Position::LIMIT],
     levels: &mut [u64; LEVELS],
@@ -95,17 +95,18 @@ pub fn enter(
     affected: &[u64; AFFECTED],
     x: OperationNo,
 ) -> bool
-    requires { ⌜ (k < 128) × (x .0 < 128) × (length (now position) ≡ 128) × (length (now places) ≡ 128) × (length (now words) ≡ 128) ⌝ }
-    ensures { λ r. ⌜ Entered (now (rows .entry)) (now (affected .entry)) (x .0) k r (now (position .entry)) (now (places .entry)) (now (levels .entry)) (now (words .entry)) (now (replaced .entry)) (now (position .exit)) (now (places .exit)) (now (levels .exit)) (now (words .exit)) (now (replaced .exit)) ⌝ }
+    requires { ⌜ (k < 128) × (x .0 < 128) × (length (now places) ≡ 128) × (length (now words) ≡ 128) ⌝ }
+    ensures { λ r. ⌜ Entered (now (rows .entry)) (now (affected .entry)) (x .0) k r (now (places .entry)) (now (levels .entry)) (now (words .entry)) (now (replaced .entry)) (now (places .exit)) (now (levels .exit)) (now (words .exit)) (now (replaced .exit)) ⌝ }
 {
-    if is_refused(rows, places, at(levels, SETS * k), x) {
+    let standing = at(levels, SETS * k);
+    if is_refused(rows, places, standing, x) {
         return false;
     }
     add_entry(
-        position,
         k,
         places,
         levels,
+        standing,
         words,
         replaced,
         rows,
@@ -153,12 +154,12 @@ pub fn walk(
     let mut k = size;
     let mut c = 0;
     let mut candidates = at(levels, SETS * k + OPEN);
-    let mut turn = 0;
-    while turn < n * n {
+    let mut left = n * n;
+    while left > 0 {
+        left -= 1;
         let x = first(candidates, c);
         if x < n {
             if enter(
-                position,
                 k,
                 places,
                 levels,
@@ -168,6 +169,7 @@ pub fn walk(
                 affected,
                 OperationNo(x),
             ) {
+                position[k] = x as u8;
                 return WalkAnswer::Next(k + 1);
             }
             c = x + 1;
@@ -180,7 +182,6 @@ pub fn walk(
             c = removed.0 + 1;
             candidates = at(levels, SETS * k + OPEN);
         }
-        turn += 1;
     }
     WalkAnswer::End
 }

@@ -1,60 +1,76 @@
--- The sizes of an access and of an mf, one by one.
-use mathlib.Core.Path.{refl, sym, ap, _∙_}
-use mathlib.Core.Bool.{not}
-use Rattle.base.specs.Lists.{member}
+-- The sizes passed are others; the first that is the given one decides.
+use Prim.Native.Nat.{_-_}
+use mathlib.Core.Path.{refl, sym, _∙_}
+use mathlib.Core.Bool.{false}
+use lib.ListN.{getD}
+use lib.Dec.{eqb}
+use borrow.Author.Tests.{eq-eqb, ne-eqb}
+use Rattle.base.proofs.Tests.{NoneYet, seeks, passes-by, meets, finds-none}
 use Rattle.record_decoded.specs.Kinds.{meant}
-use Rattle.record_programs.proofs.EntryLaws.{fence-size, size-known, size-wide, size-unknown}
+use Rattle.record_programs.proofs.EntryLaws.{sizes, fence-size, size-by-index}
 use borrow.Author.Needs.{needs}
 use Rattle.record_programs.proofs.size_passes.Statement.{statement}
 use Rattle.record_programs.proofs.size_passes.Tie as tie
 
-is-fence-requires : tie.Need-is-fence-requires
+abbrev Inv-loop : tie.InvT-loop
+Inv-loop size count i₀ i = NoneYet count (λ j. eqb (getD (sizes false) j 0) size) i
+
+abbrev μ-loop : tie.MeasureT-loop
+μ-loop size count i₀ i = count - i
+
+is-fence-requires : tie.Need-is-fence-requires Inv-loop μ-loop
 is-fence-requires c κs = search needs
 
-returns : tie.Need-returns
+returns : tie.Need-returns Inv-loop μ-loop
 returns c =
     let a = c .before .before .args in
     fence-size (meant (a .k)) (a .size) (sym (c .before .is-fence .ensures) ∙ c .if1 .taken)
 
-returns-2 : tie.Need-returns-2
-unfolding member
+size-count-requires : tie.Need-size-count-requires Inv-loop μ-loop
+size-count-requires c κs = search needs
+
+loop-holds : tie.Need-loop-holds Inv-loop μ-loop
+loop-holds c = seeks
+
+array-read-if2 : tie.Need-array-read-if2 Inv-loop μ-loop
+array-read-if2 c = search needs
+
+returns-2 : tie.Need-returns-2 Inv-loop μ-loop
 returns-2 c =
-    let a = c .before .before .before .args in
-    size-known (meant (a .k)) (a .size) 1 (sym (c .before .before .is-fence .ensures) ∙ c .before .if1 .left) (c .match .keys1) (λ b. refl)
+    let b = c .before .before .before in
+    let a = b .before .before .before .args in
+    meets (c .before .before .loop .inv) (c .before .loop-test .taken) (sym (eq-eqb _ _ (c .if2 .taken))) refl
+    ∙ size-by-index (meant (a .k)) (a .size) (b .size-count .result) (sym (b .before .before .is-fence .ensures) ∙ b .before .if1 .left) (b .size-count .ensures .0) (b .size-count .ensures .1)
 
-returns-3 : tie.Need-returns-3
-unfolding member
+add-i : tie.Need-add-i Inv-loop μ-loop
+add-i c = search needs
+
+loop-less : tie.Need-loop-less Inv-loop μ-loop
+loop-less c = search needs
+
+loop-again : tie.Need-loop-again Inv-loop μ-loop
+loop-again c = passes-by (c .before .before .loop .inv) (c .before .loop-test .taken) (sym (ne-eqb _ _ (c .if2 .left))) refl
+
+returns-3 : tie.Need-returns-3 Inv-loop μ-loop
 returns-3 c =
-    let a = c .before .before .before .args in
-    size-known (meant (a .k)) (a .size) 2 (sym (c .before .before .is-fence .ensures) ∙ c .before .if1 .left) (c .match .keys2) (λ b. refl)
-
-returns-4 : tie.Need-returns-4
-unfolding member
-returns-4 c =
-    let a = c .before .before .before .args in
-    size-known (meant (a .k)) (a .size) 4 (sym (c .before .before .is-fence .ensures) ∙ c .before .if1 .left) (c .match .keys3) (λ b. refl)
-
-returns-5 : tie.Need-returns-5
-unfolding member
-returns-5 c =
-    let a = c .before .before .before .args in
-    size-known (meant (a .k)) (a .size) 8 (sym (c .before .before .is-fence .ensures) ∙ c .before .if1 .left) (c .match .keys4) (λ b. refl)
-
-is-semaphore-requires : tie.Need-is-semaphore-requires
-is-semaphore-requires c κs = search needs
-
-returns-6 : tie.Need-returns-6
-returns-6 c =
-    let a = c .before .before .before .before .args in
-    ap not (c .is-semaphore .ensures) ∙ size-wide (meant (a .k)) (a .size) (sym (c .before .before .before .is-fence .ensures) ∙ c .before .before .if1 .left) (c .before .match .keys5)
-
-returns-7 : tie.Need-returns-7
-returns-7 c =
-    let a = c .before .before .before .args in
-    let r = c .match .rest in
-    size-unknown (meant (a .k)) (a .size) (sym (c .before .before .is-fence .ensures) ∙ c .before .if1 .left) (r .0 .0 .0 .0 .1) (r .0 .0 .0 .1) (r .0 .0 .1) (r .0 .1) (r .1)
+    let b = c .before .before in
+    let a = b .before .before .before .args in
+    finds-none (c .before .loop .inv) (c .loop-test .left)
+    ∙ size-by-index (meant (a .k)) (a .size) (b .size-count .result) (sym (b .before .before .is-fence .ensures) ∙ b .before .if1 .left) (b .size-count .ensures .0) (b .size-count .ensures .1)
 
 pub size-passes-spec : {M : Type 1} → statement M
 size-passes-spec =
     tie.close
-    (tie.spec is-fence-requires returns is-semaphore-requires returns-2 returns-3 returns-4 returns-5 returns-6 returns-7)
+    (tie.spec
+    Inv-loop
+    μ-loop
+    is-fence-requires
+    returns
+    size-count-requires
+    loop-holds
+    array-read-if2
+    returns-2
+    add-i
+    loop-less
+    loop-again
+    returns-3)

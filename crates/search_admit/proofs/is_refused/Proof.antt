@@ -16,7 +16,7 @@ returns : tie.Need-returns
 unfolding refused
 returns c =
     let a = c .before .before .before .args in
-    sym (any-missing (a .rows .now) 4 (a .x .0) (a .stand .lo) (a .stand .hi) (c .before .before .set-of .ensures .0) (c .before .before .set-of .ensures .1) (c .before .subset .ensures) (c .if1 .taken) (waitsFor (a .rows .now) (a .places .now) (a .x .0)))
+    sym (any-missing (a .rows .now) 0 (a .x .0) (a .stand .lo) (a .stand .hi) (c .before .before .set-of .ensures .0) (c .before .before .set-of .ensures .1) (c .before .subset .ensures) (c .if1 .taken) (waitsFor (a .rows .now) (a .places .now) (a .x .0)))
 
 minus-requires : tie.Need-minus-requires
 minus-requires c κs = search needs
@@ -30,7 +30,7 @@ returns-2 c =
     let s = c .before .minus .result in
     c .waits-for-any .ensures
     ∙ refused-by (a .rows .now) (a .places .now) (a .stand .lo) (a .stand .hi) (a .x .0) (s .lo) (s .hi)
-    (missing-is (a .rows .now) 4 (a .x .0) (a .stand .lo) (a .stand .hi) (c .before .before .before .before .set-of .result .lo) (c .before .before .before .before .set-of .result .hi) (s .lo) (s .hi) (c .before .before .before .before .set-of .ensures .0) (c .before .before .before .before .set-of .ensures .1) (c .before .minus .ensures))
+    (missing-is (a .rows .now) 0 (a .x .0) (a .stand .lo) (a .stand .hi) (c .before .before .before .before .set-of .result .lo) (c .before .before .before .before .set-of .result .hi) (s .lo) (s .hi) (c .before .before .before .before .set-of .ensures .0) (c .before .before .before .before .set-of .ensures .1) (c .before .minus .ensures))
 
 pub is-refused-spec : {M : Type 1} → statement M
 is-refused-spec =

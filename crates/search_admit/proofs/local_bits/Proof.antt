@@ -19,10 +19,8 @@ returns c =
     let g = c .before .before .before in
     let a = g .args in
     let s = c .before .minus .result in
-    let left = missing-is (a .rows .now) 6 (a .x .0) (a .stand .lo) (a .stand .hi) (c .before .before .set-of .result .lo) (c .before .before .set-of .result .hi) (s .lo) (s .hi) (c .before .before .set-of .ensures .0) (c .before .before .set-of .ensures .1) (c .before .minus .ensures) in (
-      λ i. c .pending-bits .ensures .0 i ∙ local-by (a .rows .now) (a .stand .lo) (a .stand .hi) 0 (a .x .0) (g .pre .1) (s .lo) (s .hi) i left,
-      λ i. c .pending-bits .ensures .1 i ∙ local-by (a .rows .now) (a .stand .lo) (a .stand .hi) 1 (a .x .0) (g .pre .2) (s .lo) (s .hi) i left,
-    )
+    let left = missing-is (a .rows .now) 11 (a .x .0) (a .stand .lo) (a .stand .hi) (c .before .before .set-of .result .lo) (c .before .before .set-of .result .hi) (s .lo) (s .hi) (c .before .before .set-of .ensures .0) (c .before .before .set-of .ensures .1) (c .before .minus .ensures) in
+    λ i. c .pending-bits .ensures i ∙ local-by (a .rows .now) (a .stand .lo) (a .stand .hi) (a .h) (a .x .0) (g .pre .1) (s .lo) (s .hi) i left
 
 pub local-bits-spec : {M : Type 1} → statement M
 local-bits-spec =

@@ -16,13 +16,12 @@ use Rattle.search_admit.proofs.pending_bits.Statement.{statement}
 use Rattle.search_admit.proofs.pending_bits.Tie as tie
 
 abbrev Inv-loop : tie.InvT-loop
-Inv-loop rows stand missing word next bits₀ beside₀ m₀ bits beside m =
+Inv-loop rows stand missing word bits₀ m₀ bits m =
     Over (missing .lo) (missing .hi) m
     × ((i : ℕ) → bit bits i ≡ anyBelow m (λ k. holds (missing .lo) (missing .hi) k && (standsLocal rows (stand .lo) (stand .hi) k && writesBit rows word k i)))
-    × ((i : ℕ) → bit beside i ≡ anyBelow m (λ k. holds (missing .lo) (missing .hi) k && (standsLocal rows (stand .lo) (stand .hi) k && writesBit rows next k i)))
 
 abbrev μ-loop : tie.MeasureT-loop
-μ-loop rows stand missing word next bits₀ beside₀ m₀ bits beside m = 128 - m
+μ-loop rows stand missing word bits₀ m₀ bits m = 128 - m
 
 first-requires : tie.Need-first-requires Inv-loop μ-loop
 first-requires c κs = search needs
@@ -33,7 +32,6 @@ loop-holds c =
     let s = a .missing in (
       over (s .lo) (s .hi) 0 (c .first .ensures),
       λ i. zero-has i ∙ sym (over-starts (s .lo) (s .hi) (λ k. standsLocal (a .rows .now) (a .stand .lo) (a .stand .hi) k && writesBit (a .rows .now) (a .word) k i) (c .first .ensures)),
-      λ i. zero-has i ∙ sym (over-starts (s .lo) (s .hi) (λ k. standsLocal (a .rows .now) (a .stand .lo) (a .stand .hi) k && writesBit (a .rows .now) (a .next) k i) (c .first .ensures)),
     )
 
 bits-of-requires : tie.Need-bits-of-requires Inv-loop μ-loop
@@ -50,24 +48,20 @@ loop-less c = omega (arith, c .first2 .ensures .onward, c .first2 .ensures .with
 
 loop-again : tie.Need-loop-again Inv-loop μ-loop
 loop-again c =
-    let a = c .before .before .before .before .before .before .before .args in
+    let a = c .before .before .before .before .before .args in
     let s = a .missing in
-    let inv = c .before .before .before .before .before .loop .inv in (
+    let inv = c .before .before .before .loop .inv in (
       over (s .lo) (s .hi) _ (c .first2 .ensures),
-      λ i. has-or (c .before .before .before .before .before .loop .bits) (c .before .before .before .bits-of .result .first) i ∙ ap₂ _||_ (inv .1 i) (c .before .before .before .bits-of .ensures .0 i)
-          ∙ sym (over-next (s .lo) (s .hi) (λ k. standsLocal (a .rows .now) (a .stand .lo) (a .stand .hi) k && writesBit (a .rows .now) (a .word) k i) (inv .0) (c .before .before .before .before .loop-test .taken) (c .first2 .ensures)),
-      λ i. has-or (c .before .before .before .before .before .loop .beside) (c .before .before .before .bits-of .result .next) i ∙ ap₂ _||_ (inv .2 i) (c .before .before .before .bits-of .ensures .1 i)
-          ∙ sym (over-next (s .lo) (s .hi) (λ k. standsLocal (a .rows .now) (a .stand .lo) (a .stand .hi) k && writesBit (a .rows .now) (a .next) k i) (inv .0) (c .before .before .before .before .loop-test .taken) (c .first2 .ensures)),
+      λ i. has-or (c .before .before .before .loop .bits) (c .before .bits-of .result) i ∙ ap₂ _||_ (inv .1 i) (c .before .bits-of .ensures i)
+          ∙ sym (over-next (s .lo) (s .hi) (λ k. standsLocal (a .rows .now) (a .stand .lo) (a .stand .hi) k && writesBit (a .rows .now) (a .word) k i) (inv .0) (c .before .before .loop-test .taken) (c .first2 .ensures)),
     )
 
 returns : tie.Need-returns Inv-loop μ-loop
 returns c =
     let a = c .before .before .before .args in
     let s = a .missing in
-    let inv = c .before .loop .inv in (
-      λ i. inv .1 i ∙ over-ends (s .lo) (s .hi) (λ k. standsLocal (a .rows .now) (a .stand .lo) (a .stand .hi) k && writesBit (a .rows .now) (a .word) k i) (inv .0) (c .loop-test .left),
-      λ i. inv .2 i ∙ over-ends (s .lo) (s .hi) (λ k. standsLocal (a .rows .now) (a .stand .lo) (a .stand .hi) k && writesBit (a .rows .now) (a .next) k i) (inv .0) (c .loop-test .left),
-    )
+    let inv = c .before .loop .inv in
+    λ i. inv .1 i ∙ over-ends (s .lo) (s .hi) (λ k. standsLocal (a .rows .now) (a .stand .lo) (a .stand .hi) k && writesBit (a .rows .now) (a .word) k i) (inv .0) (c .loop-test .left)
 
 pub pending-bits-spec : {M : Type 1} → statement M
 pending-bits-spec =

@@ -1,9 +1,9 @@
--- Nothing is read; one word, and no store is missing; or both words decide.
+-- Nothing is read; one word, and no store is missing; or each word decides.
 use mathlib.Core.Bool.{_&&_}
 use mathlib.Core.Path.{refl, sym, _∙_}
 use Rattle.search_sets.proofs.Laws.{zero-has}
 use Rattle.search_admit.specs.Rows.{writesBit}
-use Rattle.search_admit.proofs.TestLaws.{standsLocal, any-missing, local-is, word-is, reads-none, reads-some, reads-one, reads-nothing, reads-only}
+use Rattle.search_admit.proofs.TestLaws.{standsLocal, any-missing, local-is, word-is, reads-none, reads-one, reads-nothing, reads-only}
 use borrow.Author.Needs.{needs}
 use Rattle.search_admit.proofs.reads_right.Statement.{statement}
 use Rattle.search_admit.proofs.reads_right.Tie as tie
@@ -15,9 +15,6 @@ returns : tie.Need-returns
 returns c =
     let a = c .before .before .args in
     reads-nothing (a .rows .now) (a .words .now) (a .stand .lo) (a .stand .hi) (a .x .0) (sym (reads-none (a .rows .now) (a .x .0) (c .before .field-of .ensures) (c .if1 .taken)))
-
-word-of-requires : tie.Need-word-of-requires
-word-of-requires c κs = search needs
 
 add-field-of : tie.Need-add-field-of
 add-field-of c = search needs
@@ -31,24 +28,24 @@ set-of-requires c κs = search needs
 subset-requires : tie.Need-subset-requires
 subset-requires c κs = search needs
 
+word-of-requires : tie.Need-word-of-requires
+word-of-requires c κs = search needs
+
 reads-word-requires : tie.Need-reads-word-requires
 reads-word-requires c κs = search needs
 
 returns-2 : tie.Need-returns-2
 returns-2 c =
     let a = c .before .before .before .before .before .before .before .before .before .args in
-    let stores = c .before .before .before .set-of .ensures in
-    let none = any-missing (a .rows .now) 6 (a .x .0) (a .stand .lo) (a .stand .hi) (stores .0) (stores .1) (c .before .before .subset .ensures) (c .before .if3 .taken) in
+    let stores = c .before .before .before .before .set-of .ensures in
+    let none = any-missing (a .rows .now) 11 (a .x .0) (a .stand .lo) (a .stand .hi) (stores .0) (stores .1) (c .before .before .before .subset .ensures) (c .before .before .if3 .taken) in
     reads-only (a .rows .now) (a .words .now) (a .stand .lo) (a .stand .hi) (a .x .0)
     (word-is (a .rows .now) (a .words .now) (a .stand .lo) (a .stand .hi) (a .x .0) 0 0 (c .reads-word .ensures)
     (λ i. zero-has i ∙ sym (none (λ m. standsLocal (a .rows .now) (a .stand .lo) (a .stand .hi) m && writesBit (a .rows .now) _ m i)) ∙ local-is (a .rows .now) (a .stand .lo) (a .stand .hi) 0 (a .x .0) refl i))
-    (sym (reads-one (a .rows .now) (a .x .0) (c .before .before .before .before .before .before .before .before .field-of .ensures) (c .before .before .before .before .before .before .before .if1 .left) (c .before .before .before .before .before .field-of2 .ensures) (c .before .before .before .before .if2 .taken)))
+    (sym (reads-one (a .rows .now) (a .x .0) (c .before .before .before .before .before .before .before .before .field-of .ensures) (c .before .before .before .before .before .before .before .if1 .left) (c .before .before .before .before .before .before .field-of2 .ensures) (c .before .before .before .before .before .if2 .taken)))
 
-reads-both-requires : tie.Need-reads-both-requires
-reads-both-requires c κs =
-    let a = c .before .before .before .before .before .args in
-    let v = c .before .before .word-of .ensures in
-    (search needs, v .1, v .0, reads-some (a .rows .now) (a .x .0) (c .before .before .before .before .field-of .ensures) (c .before .before .before .if1 .left))
+reads-words-requires : tie.Need-reads-words-requires
+reads-words-requires c κs = search needs
 
 returns-3 : tie.Need-returns-3
 returns-3 c = search needs
@@ -59,12 +56,12 @@ reads-right-spec =
     (tie.spec
     field-of-requires
     returns
-    word-of-requires
     add-field-of
     field-of-requires-2
     set-of-requires
     subset-requires
+    word-of-requires
     reads-word-requires
     returns-2
-    reads-both-requires
+    reads-words-requires
     returns-3)

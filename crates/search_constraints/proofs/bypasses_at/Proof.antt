@@ -1,18 +1,16 @@
 -- Not an R; else each turn takes in the own RV of one store.
 use native.Mathlib.Omega.{arith}
 use Prim.Native.Nat.{ℕ, _-_, _≤_}
-use mathlib.Core.Path.{_≡_, ap, ap₂, _∙_}
+use mathlib.Core.Path.{_≡_, ap₂, _∙_}
 use mathlib.Core.Bool.{Bool, _&&_, _||_}
 use lib.ListN.{length, getD}
 use lib.Dec.{eqb, ltb}
 use Rattle.model.specs.Execution.{Kind, kindOf, isStore, RV, numberFrom}
 use Rattle.relation_marks.specs.Marks.{sharedBy}
-use Rattle.relation_marks.proofs.MarkLaws.{some-shared}
 use Rattle.search_sets.specs.Set.{holds}
-use Rattle.search_constraints.specs.Rows.{storesToItsBy}
+use Rattle.search_constraints.specs.Rows.{ownStoreBy}
 use Rattle.search_sets.proofs.Members.{Grown, grown-starts, grown-more, grown-all, holds-none}
 use Rattle.search_constraints.proofs.SetLaws.{bypass-R, bypass-none}
-use Rattle.search_constraints.proofs.bypasses_at.Tie as tie
 use borrow.Author.Needs.{needs}
 use Rattle.search_constraints.proofs.bypasses_at.Statement.{statement}
 use Rattle.search_constraints.proofs.bypasses_at.Tie as tie
@@ -33,7 +31,7 @@ abbrev μ-loop : tie.MeasureT-loop
 returns : tie.Need-returns Inv-loop μ-loop
 returns c = λ a l.
     let g = c .before .args in
-    bypass-none (g .n) (g .role) (λ v. storesToItsBy (g .kinds .now) (g .processors .now) (g .addresses .now) (g .sizes .now) (g .w .0) v && eqb a (numberFrom (getD (g .firsts .now) v 0) (kindOf (getD (g .kinds .now) v 0)) (RV (getD (g .processors .now) v 0)))) 0 0 a (holds-none a) (c .if1 .taken)
+    bypass-none (g .n) (g .role) (λ v. ownStoreBy (g .kinds .now) (g .processors .now) (g .addresses .now) (g .sizes .now) (g .w .0) v && eqb a (numberFrom (getD (g .firsts .now) v 0) (kindOf (getD (g .kinds .now) v 0)) (RV (getD (g .processors .now) v 0)))) 0 0 a (holds-none a) (c .if1 .taken)
 
 element-copy-out-own : tie.Need-element-copy-out-own Inv-loop μ-loop
 element-copy-out-own c = search needs
@@ -56,14 +54,14 @@ element-copy-out-kind-of c = search needs
 kind-of-requires : tie.Need-kind-of-requires Inv-loop μ-loop
 kind-of-requires c κs = search needs
 
-element-copy-out-shared-bytes : tie.Need-element-copy-out-shared-bytes Inv-loop μ-loop
-element-copy-out-shared-bytes c = search needs
+element-copy-out-overlaps : tie.Need-element-copy-out-overlaps Inv-loop μ-loop
+element-copy-out-overlaps c = search needs
 
-element-copy-out-shared-bytes-2 : tie.Need-element-copy-out-shared-bytes-2 Inv-loop μ-loop
-element-copy-out-shared-bytes-2 c = search needs
+element-copy-out-overlaps-2 : tie.Need-element-copy-out-overlaps-2 Inv-loop μ-loop
+element-copy-out-overlaps-2 c = search needs
 
-shared-bytes-requires : tie.Need-shared-bytes-requires Inv-loop μ-loop
-shared-bytes-requires c κs = search needs
+overlaps-requires : tie.Need-overlaps-requires Inv-loop μ-loop
+overlaps-requires c κs = search needs
 
 is-own-store-requires : tie.Need-is-own-store-requires Inv-loop μ-loop
 is-own-store-requires c κs = search needs
@@ -90,20 +88,20 @@ add-v : tie.Need-add-v Inv-loop μ-loop
 add-v c = search needs
 
 loop-less : tie.Need-loop-less Inv-loop μ-loop
-loop-less c = omega (arith, c .before .before .before .before .before .before .before .before .before .before .before .before .before .loop-test .taken)
+loop-less c = omega (arith, c .before .before .before .before .before .before .before .before .before .before .before .before .loop-test .taken)
 
 loop-again : tie.Need-loop-again Inv-loop μ-loop
 loop-again c =
-    let s = c .before .before .before .before .before .before .before .before .before .before .before .before .before .before .loop .set in
-    let kind = c .before .before .before .before .before .before .before .before .before .before .kind-of .ensures in
-    let g = c .before .before .before .before .before .before .before .before .before .before .before .before .before .before .before .before .before .before .before .args in
-    let v = c .before .before .before .before .before .before .before .before .before .before .before .before .before .before .loop .v in (
-      omega (arith, c .before .before .before .before .before .before .before .before .before .before .before .before .before .loop-test .taken),
-      grown-more (c .before .before .before .before .before .before .before .before .before .before .before .before .before .before .loop .inv .1) _
+    let s = c .before .before .before .before .before .before .before .before .before .before .before .before .before .loop .set in
+    let kind = c .before .before .before .before .before .before .before .before .before .kind-of .ensures in
+    let g = c .before .before .before .before .before .before .before .before .before .before .before .before .before .before .before .before .before .before .args in
+    let v = c .before .before .before .before .before .before .before .before .before .before .before .before .before .loop .v in (
+      omega (arith, c .before .before .before .before .before .before .before .before .before .before .before .before .loop-test .taken),
+      grown-more (c .before .before .before .before .before .before .before .before .before .before .before .before .before .loop .inv .1) _
           (λ a l. c .insert-if .ensures a l
           ∙ ap₂ (λ (b : Bool) (k : ℕ). holds (s .lo) (s .hi) a || (b && eqb a k))
           (c .before .before .before .before .before .is-own-store .ensures
-          ∙ ap₂ (λ (k : Kind) (shares : Bool). isStore k && (eqb (getD (g .processors .now) v 0) (getD (g .processors .now) (g .w .0) 0) && shares)) kind (some-shared _ _ (c .before .before .before .before .before .before .before .shared-bytes .ensures)))
+          ∙ ap₂ (λ (k : Kind) (shares : Bool). isStore k && (eqb (getD (g .processors .now) v 0) (getD (g .processors .now) (g .w .0) 0) && shares)) kind (c .before .before .before .before .before .before .overlaps .ensures))
           (c .before .number-of .ensures ∙ own-number kind (c .before .before .before .wide16 .ensures .0) (c .before .before .wide .ensures .0))),
     )
 
@@ -111,7 +109,7 @@ returns-2 : tie.Need-returns-2 Inv-loop μ-loop
 returns-2 c = λ a l.
     let g = c .before .before .before .before .before .before .args in
     grown-all (c .before .loop .inv .1) (c .before .loop .inv .0) (c .loop-test .left) a l
-    ∙ bypass-R (g .n) (g .role) (λ v. storesToItsBy (g .kinds .now) (g .processors .now) (g .addresses .now) (g .sizes .now) (g .w .0) v && eqb a (numberFrom (getD (g .firsts .now) v 0) (kindOf (getD (g .kinds .now) v 0)) (RV (getD (g .processors .now) v 0)))) (c .before .before .before .before .before .if1 .left)
+    ∙ bypass-R (g .n) (g .role) (λ v. ownStoreBy (g .kinds .now) (g .processors .now) (g .addresses .now) (g .sizes .now) (g .w .0) v && eqb a (numberFrom (getD (g .firsts .now) v 0) (kindOf (getD (g .kinds .now) v 0)) (RV (getD (g .processors .now) v 0)))) (c .before .before .before .before .before .if1 .left)
 
 pub bypasses-at-spec : {M : Type 1} → statement M
 bypasses-at-spec =
@@ -127,9 +125,9 @@ bypasses-at-spec =
     element-copy-out-processor
     element-copy-out-kind-of
     kind-of-requires
-    element-copy-out-shared-bytes
-    element-copy-out-shared-bytes-2
-    shared-bytes-requires
+    element-copy-out-overlaps
+    element-copy-out-overlaps-2
+    overlaps-requires
     is-own-store-requires
     mul-wide16
     element-copy-out-wide16

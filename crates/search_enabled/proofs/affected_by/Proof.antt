@@ -1,36 +1,40 @@
 -- One operation after the other.
-use Rattle.search_enabled.proofs.AffectLaws.{affecting-in}
+use Rattle.search_enabled.proofs.AffectLaws.{empty-at, affecting-in}
 use Rattle.search_enabled.specs.Affects.{affects}
-use Rattle.search_sets.proofs.Members.{holds-none}
 use Rattle.search_sets.specs.Set.{holds, setAt}
 use borrow.Author.Tests.{le-ltb, lt-ltb}
-use lib.ListN.{length, getD-replicate, length-replicate}
+use lib.ListN.{length, length-replicate}
 use lib.Dec.{ltb}
 use mathlib.Core.Bool.{Bool, _&&_}
-use mathlib.Core.Path.{_≡_, sym, ap, ap₂, _∙_}
+use mathlib.Core.Path.{_≡_, sym, ap, _∙_}
 use native.Mathlib.Omega.{arith}
-use Prim.Native.Nat.{ℕ, _-_, _+_, _*_, _≤_, _<_}
+use Prim.Native.Nat.{ℕ, _-_, _≤_, _<_}
 use borrow.Author.Needs.{needs}
 use Rattle.search_enabled.proofs.affected_by.Statement.{statement}
 use Rattle.search_enabled.proofs.affected_by.Tie as tie
 
 abbrev Inv-loop : tie.InvT-loop
-Inv-loop n rows affected₀ y₀ affected y = (y ≤ n) × ((a k : ℕ) → a < n → setAt affected a k ≡ (ltb k y && affects rows a k)) × (length affected ≡ 256)
+Inv-loop n rows writers affected₀ y₀ affected y = (y ≤ n) × ((a k : ℕ) → a < n → setAt affected a k ≡ (ltb k y && affects rows a k)) × (length affected ≡ 256)
 
 abbrev μ-loop : tie.MeasureT-loop
-μ-loop n rows affected₀ y₀ affected y = n - y
+μ-loop n rows writers affected₀ y₀ affected y = n - y
+
+writers-for-reads-requires : tie.Need-writers-for-reads-requires Inv-loop μ-loop
+writers-for-reads-requires c κs = search needs
 
 loop-holds : tie.Need-loop-holds Inv-loop μ-loop
 loop-holds c = (
   omega arith,
-  λ a k l.
-      ap₂ (λ (u v : ℕ). holds u v k) (getD-replicate 256 (2 * a) 0 0 (omega (arith, c .pre))) (getD-replicate 256 (2 * a + 1) 0 0 (omega (arith, c .pre)))
-      ∙ holds-none k ∙ sym (ap (λ (b : Bool). b && affects (c .args .rows .now) a k) (le-ltb k 0 (omega arith))),
+  λ a k l. empty-at 256 a k (omega (arith, c .before .pre)) ∙ sym (ap (λ (b : Bool). b && affects (c .before .args .rows .now) a k) (le-ltb k 0 (omega arith))),
   length-replicate {A = ℕ} 256 0,
 )
 
 all-affecting-requires : tie.Need-all-affecting-requires Inv-loop μ-loop
-all-affecting-requires c κs = search needs
+all-affecting-requires c κs =
+    let s = c .before .before .before .before in
+    let l = c .before .before .loop in
+    let below = c .before .loop-test .taken in
+    (s .pre, omega (arith, s .pre, below), c .before .before .before .writers-for-reads .ensures (l .y) below)
 
 slice-aggregate-put-affected : tie.Need-slice-aggregate-put-affected Inv-loop μ-loop
 slice-aggregate-put-affected c = search needs
@@ -43,22 +47,23 @@ add-y c = search needs
 
 loop-less : tie.Need-loop-less Inv-loop μ-loop
 loop-less c =
-    omega (arith, c .before .before .before .before .loop-test .taken)
+    omega (arith, c .before .before .before .before .before .loop-test .taken)
 
 loop-again : tie.Need-loop-again Inv-loop μ-loop
 loop-again c =
-    let a = c .before .before .before .before .before .before .args in
-    let inv = c .before .before .before .before .before .loop .inv in
-    let y = c .before .before .before .before .before .loop .y in (
-      omega (arith, c .before .before .before .before .loop-test .taken),
-      λ b k l. c .before .put-affected .ensures .0 b k (omega (arith, c .before .before .before .before .before .before .pre))
-          ∙ affecting-in (λ i. affects (a .rows .now) b i) y k (setAt (c .before .before .before .before .before .loop .affected) b k) (holds (c .before .before .before .all-affecting .result .lo) (c .before .before .before .all-affecting .result .hi) b) (inv .1 b k l) (λ e. c .before .before .before .all-affecting .ensures b l),
-      c .before .put-affected .ensures .1,
+    let s = c .before .before .before .before .before .before .before .before in
+    let l = c .before .before .before .before .before .before .loop in
+    let put = c .before .put-affected .ensures in
+    let all = c .before .before .before .all-affecting in (
+      omega (arith, c .before .before .before .before .before .loop-test .taken),
+      λ b k m. put .0 b k (omega (arith, s .pre))
+          ∙ affecting-in (λ i. affects (s .args .rows .now) b i) (l .y) k (setAt (l .affected) b k) (holds (all .result .lo) (all .result .hi) b) (l .inv .1 b k m) (λ e. all .ensures b m),
+      put .1,
     )
 
 returns : tie.Need-returns Inv-loop μ-loop
 returns c =
-    λ x y l s. c .before .loop .inv .1 x y l ∙ ap (λ (b : Bool). b && affects (c .before .before .args .rows .now) x y) (lt-ltb y _ (omega (arith, c .loop-test .left)))
+    λ x y l s. c .before .loop .inv .1 x y l ∙ ap (λ (b : Bool). b && affects (c .before .before .before .args .rows .now) x y) (lt-ltb y _ (omega (arith, c .loop-test .left)))
 
 pub affected-by-spec : {M : Type 1} → statement M
 affected-by-spec =
@@ -66,6 +71,7 @@ affected-by-spec =
     (tie.spec
     Inv-loop
     μ-loop
+    writers-for-reads-requires
     loop-holds
     all-affecting-requires
     slice-aggregate-put-affected

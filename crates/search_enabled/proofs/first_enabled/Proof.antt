@@ -12,10 +12,10 @@ use Rattle.search_enabled.proofs.first_enabled.Statement.{statement}
 use Rattle.search_enabled.proofs.first_enabled.Tie as tie
 
 abbrev Inv-loop : tie.InvT-loop
-Inv-loop n rows all₀ y₀ all y = (y ≤ n) × Taken (holds 0 0) (enabled rows 0 0 firstWords) (holds (all .lo) (all .hi)) y
+Inv-loop n rows words all₀ y₀ all y = (y ≤ n) × Taken (holds 0 0) (enabled rows 0 0 firstWords) (holds (all .lo) (all .hi)) y
 
 abbrev μ-loop : tie.MeasureT-loop
-μ-loop n rows all₀ y₀ all y = n - y
+μ-loop n rows words all₀ y₀ all y = n - y
 
 loop-holds : tie.Need-loop-holds Inv-loop μ-loop
 loop-holds c =
@@ -32,12 +32,12 @@ add-y c = search needs
 
 loop-less : tie.Need-loop-less Inv-loop μ-loop
 loop-less c =
-    omega (arith, c .before .before .loop-test .taken)
+    omega (arith, c .before .before .before .loop-test .taken)
 
 loop-again : tie.Need-loop-again Inv-loop μ-loop
 loop-again c =
-    let inv = c .before .before .before .loop .inv in
-    (omega (arith, c .before .before .loop-test .taken), taken-on (inv .1) _ (c .before .is-enabled-first .ensures) (c .insert-if .ensures))
+    let inv = c .before .before .before .before .loop .inv in
+    (omega (arith, c .before .before .before .loop-test .taken), taken-on (inv .1) _ (c .before .is-enabled-first .ensures) (c .insert-if .ensures))
 
 returns : tie.Need-returns Inv-loop μ-loop
 returns c =

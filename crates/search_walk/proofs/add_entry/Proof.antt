@@ -1,14 +1,8 @@
--- Three entries and the sets of a level.
+-- A place, the words and the sets of a level.
 use mathlib.Core.Path.{refl}
 use borrow.Author.Needs.{needs}
 use Rattle.search_walk.proofs.add_entry.Statement.{statement}
 use Rattle.search_walk.proofs.add_entry.Tie as tie
-
-cast-position : tie.Need-cast-position
-cast-position c = search needs
-
-slice-write-position : tie.Need-slice-write-position
-slice-write-position c = search needs
 
 cast-places : tie.Need-cast-places
 cast-places c = search needs
@@ -31,20 +25,15 @@ same-length-2 c = search needs
 same-length-3 : tie.Need-same-length-3
 same-length-3 c = search needs
 
-same-length-4 : tie.Need-same-length-4
-same-length-4 c = search needs
-
 returns : tie.Need-returns
 returns c =
     let w = c .before .before .before .before .before .before .before .write .ensures in
-    (refl, refl, w .0, w .1, c .before .before .add-level .ensures)
+    (refl, w .0, w .1, c .before .before .add-level .ensures)
 
 pub add-entry-spec : {M : Type 1} → statement M
 add-entry-spec =
     tie.close
     (tie.spec
-    cast-position
-    slice-write-position
     cast-places
     slice-write-places
     write-requires
@@ -52,5 +41,4 @@ add-entry-spec =
     same-length
     same-length-2
     same-length-3
-    same-length-4
     returns)

@@ -10,23 +10,17 @@ use borrow.Author.Needs.{needs}
 use Rattle.search_walk.proofs.add_level.Statement.{statement}
 use Rattle.search_walk.proofs.add_level.Tie as tie
 
-mul-at : tie.Need-mul-at
-mul-at c = search needs
-
-at-requires : tie.Need-at-requires
-at-requires c κs = search needs
-
 insert-requires : tie.Need-insert-requires
 insert-requires c κs = search needs
 
-mul-at-2 : tie.Need-mul-at-2
-mul-at-2 c = search needs
+mul-at : tie.Need-mul-at
+mul-at c = search needs
 
 add-at : tie.Need-add-at
 add-at c = search needs
 
-at-requires-2 : tie.Need-at-requires-2
-at-requires-2 c κs = search needs
+at-requires : tie.Need-at-requires
+at-requires c κs = search needs
 
 enabled-after-requires : tie.Need-enabled-after-requires
 enabled-after-requires c κs = search needs
@@ -51,16 +45,16 @@ put-requires-2 c κs = search needs
 
 add-put-2 : tie.Need-add-put-2
 add-put-2 c =
-    omega (arith, c .before .before .before .before .before .before .before .before .before .before .before .before .before .before .before .before .before .pre .0)
+    omega (arith, c .before .before .before .before .before .before .before .before .before .before .before .before .before .before .before .pre .0)
 
 put-requires-3 : tie.Need-put-requires-3
 put-requires-3 c κs =
-    let a = c .before .before .before .before .before .before .before .before .before .before .before .before .before .before .before .before .before .args in
+    let a = c .before .before .before .before .before .before .before .before .before .before .before .before .before .before .before .args in
     let e = c .before .before .before .before .before .before .before .before .before .before .enabled-after .result in
     let s = c .before .before .before .before .before .before .before .before .before .before .before .before .before .insert .result in
     let at = 3 * (a .k + 1) in (
-      omega (arith, c .before .before .before .before .before .before .before .before .before .before .before .before .before .before .before .before .before .pre .0),
-      omega (arith, c .before .before .before .before .before .before .before .before .before .before .before .before .before .before .before .before .before .pre .0, c .before .before .before .before .before .before .before .before .before .before .before .before .before .before .before .before .before .pre .2, ap length (c .before .before .before .put2 .ensures ∙ ap (λ (l : List ℕ). putAt l (at + 1) (e .lo) (e .hi)) (c .before .before .before .before .before .before .before .put .ensures)), put-length (putAt (a .levels .now) at (s .lo) (s .hi)) (at + 1) (e .lo) (e .hi), put-length (a .levels .now) at (s .lo) (s .hi)),
+      omega (arith, c .before .before .before .before .before .before .before .before .before .before .before .before .before .before .before .pre .0),
+      omega (arith, c .before .before .before .before .before .before .before .before .before .before .before .before .before .before .before .pre .0, c .before .before .before .before .before .before .before .before .before .before .before .before .before .before .before .pre .2, ap length (c .before .before .before .put2 .ensures ∙ ap (λ (l : List ℕ). putAt l (at + 1) (e .lo) (e .hi)) (c .before .before .before .before .before .before .before .put .ensures)), put-length (putAt (a .levels .now) at (s .lo) (s .hi)) (at + 1) (e .lo) (e .hi), put-length (a .levels .now) at (s .lo) (s .hi)),
     )
 
 same-length : tie.Need-same-length
@@ -68,9 +62,9 @@ same-length c = search needs
 
 returns : tie.Need-returns
 returns c =
-    let a = c .before .before .before .before .before .before .before .before .before .before .before .before .before .before .before .before .before .before .before .before .args in
-    level-made (a .rows .now) (a .affected .now) (a .words .now) (a .levels .now) (a .x .0) (a .k) (c .before .before .before .before .before .before .before .before .before .before .before .before .before .before .before .before .before .at .result .lo) (c .before .before .before .before .before .before .before .before .before .before .before .before .before .before .before .before .before .at .result .hi) (c .before .before .before .before .before .before .before .before .before .before .before .before .before .before .before .before .insert .result .lo) (c .before .before .before .before .before .before .before .before .before .before .before .before .before .before .before .before .insert .result .hi) (c .before .before .before .before .before .before .before .before .before .before .before .before .before .before .at2 .result .lo) (c .before .before .before .before .before .before .before .before .before .before .before .before .before .before .at2 .result .hi) (c .before .before .before .before .before .before .before .before .before .before .before .before .before .enabled-after .result .lo) (c .before .before .before .before .before .before .before .before .before .before .before .before .before .enabled-after .result .hi) (c .before .before .before .before .before .before .before .before .before .before .before .before .open-after .result .lo) (c .before .before .before .before .before .before .before .before .before .before .before .before .open-after .result .hi)
-    (c .before .before .before .before .before .before .before .before .before .before .before .before .before .before .before .before .before .before .before .before .pre .2) (c .before .before .before .before .before .before .before .before .before .before .before .before .before .before .before .before .before .before .before .before .pre .0) (c .before .before .before .before .before .before .before .before .before .before .before .before .before .before .before .before .before .at .ensures) (c .before .before .before .before .before .before .before .before .before .before .before .before .before .before .before .before .insert .ensures) (c .before .before .before .before .before .before .before .before .before .before .before .before .before .before .at2 .ensures) (c .before .before .before .before .before .before .before .before .before .before .before .before .before .enabled-after .ensures) (c .before .before .before .before .before .before .before .before .before .before .before .before .open-after .ensures)
+    let a = c .before .before .before .before .before .before .before .before .before .before .before .before .before .before .before .before .before .before .args in
+    level-made (a .rows .now) (a .affected .now) (a .words .now) (a .levels .now) (a .x .0) (a .k) (a .standing .lo) (a .standing .hi) (c .before .before .before .before .before .before .before .before .before .before .before .before .before .before .before .before .insert .result .lo) (c .before .before .before .before .before .before .before .before .before .before .before .before .before .before .before .before .insert .result .hi) (c .before .before .before .before .before .before .before .before .before .before .before .before .before .before .at .result .lo) (c .before .before .before .before .before .before .before .before .before .before .before .before .before .before .at .result .hi) (c .before .before .before .before .before .before .before .before .before .before .before .before .before .enabled-after .result .lo) (c .before .before .before .before .before .before .before .before .before .before .before .before .before .enabled-after .result .hi) (c .before .before .before .before .before .before .before .before .before .before .before .before .open-after .result .lo) (c .before .before .before .before .before .before .before .before .before .before .before .before .open-after .result .hi)
+    (c .before .before .before .before .before .before .before .before .before .before .before .before .before .before .before .before .before .before .pre .2) (c .before .before .before .before .before .before .before .before .before .before .before .before .before .before .before .before .before .before .pre .0) (c .before .before .before .before .before .before .before .before .before .before .before .before .before .before .before .before .before .before .pre .3, c .before .before .before .before .before .before .before .before .before .before .before .before .before .before .before .before .before .before .pre .4) (c .before .before .before .before .before .before .before .before .before .before .before .before .before .before .before .before .insert .ensures) (c .before .before .before .before .before .before .before .before .before .before .before .before .before .before .at .ensures) (c .before .before .before .before .before .before .before .before .before .before .before .before .before .enabled-after .ensures) (c .before .before .before .before .before .before .before .before .before .before .before .before .open-after .ensures)
     (c .before .before .put3 .ensures
     ∙ ap (λ (l : List ℕ). putAt l (3 * (a .k + 1) + 2) (c .before .before .before .before .before .before .before .before .before .before .before .before .open-after .result .lo) (c .before .before .before .before .before .before .before .before .before .before .before .before .open-after .result .hi))
     (c .before .before .before .before .before .before .put2 .ensures
@@ -80,12 +74,10 @@ pub add-level-spec : {M : Type 1} → statement M
 add-level-spec =
     tie.close
     (tie.spec
-    mul-at
-    at-requires
     insert-requires
-    mul-at-2
+    mul-at
     add-at
-    at-requires-2
+    at-requires
     enabled-after-requires
     open-after-requires
     add-level

@@ -19,11 +19,11 @@ is-refused-requires c κs = search needs
 returns : tie.Need-returns
 returns c =
     let a = c .before .before .before .before .before .before .args in
-    let s = c .before .before .at .ensures in
+    let s = c .before .before .before .at .ensures in
     record {
       told = ap not (sym (c .if1 .taken) ∙ c .before .is-refused .ensures ∙ ap₂ (λ (u v : ℕ). refused (a .rows .now) (a .places .now) u v (a .x .0)) (s .0) (s .1));
       made = λ t. absurd (false≢true t);
-      left = λ f. (refl, refl, refl, refl, refl);
+      left = λ f. (refl, refl, refl, refl);
     }
 
 add-entry-requires : tie.Need-add-entry-requires
@@ -31,11 +31,11 @@ add-entry-requires c κs = search needs
 
 returns-2 : tie.Need-returns-2
 returns-2 c =
-    let a = c .before .before .before .before .before .before .before .before .before .before .before .before .args in
+    let a = c .before .before .before .before .before .before .before .before .before .before .before .args in
     let s = c .before .before .before .before .before .before .before .before .at .ensures in
     record {
-      told = ap not (sym (c .before .before .before .before .before .before .if1 .left) ∙ c .before .before .before .before .before .before .before .is-refused .ensures ∙ ap₂ (λ (u v : ℕ). refused (a .rows .now) (a .places .now) u v (a .x .0)) (s .0) (s .1));
-      made = λ t. let e = c .add-entry .ensures in (e .0, e .1, e .2, e .3, e .4, c .before .add-entry-arg5 .given .0 .1);
+      told = ap not (sym (c .before .before .before .before .before .if1 .left) ∙ c .before .before .before .before .before .before .is-refused .ensures ∙ ap₂ (λ (u v : ℕ). refused (a .rows .now) (a .places .now) u v (a .x .0)) (s .0) (s .1));
+      made = λ t. let e = c .add-entry .ensures in (e .0, e .1, e .2, e .3, c .before .add-entry-arg4 .given .0 .1);
       left = λ f. absurd (false≢true (sym f));
     }
 

@@ -9,7 +9,6 @@ use Rattle.record_decoded.specs.Decoded.{instructionAt, executionOf}
 use Rattle.record_decoded.proofs.Arrays.{attribute-at}
 use Rattle.relation_marks.specs.Marks.{marksBetween}
 use Rattle.relation_marks.proofs.BetweenLaws.{between-made}
-use Rattle.relation_marks.proofs.MarkLaws.{some-shared}
 use borrow.Author.Needs.{needs}
 use Rattle.relation_marks.proofs.between.marks_row.Statement.{statement}
 use Rattle.relation_marks.proofs.between.marks_row.Tie as tie
@@ -48,14 +47,14 @@ array-read-own c = search needs
 both-requires : tie.Need-both-requires Inv-loop μ-loop
 both-requires c κs = search needs
 
-array-read-shared-bytes : tie.Need-array-read-shared-bytes Inv-loop μ-loop
-array-read-shared-bytes c = search needs
+array-read-overlaps : tie.Need-array-read-overlaps Inv-loop μ-loop
+array-read-overlaps c = search needs
 
-array-read-shared-bytes-2 : tie.Need-array-read-shared-bytes-2 Inv-loop μ-loop
-array-read-shared-bytes-2 c = search needs
+array-read-overlaps-2 : tie.Need-array-read-overlaps-2 Inv-loop μ-loop
+array-read-overlaps-2 c = search needs
 
-shared-bytes-requires : tie.Need-shared-bytes-requires Inv-loop μ-loop
-shared-bytes-requires c κs = search needs
+overlaps-requires : tie.Need-overlaps-requires Inv-loop μ-loop
+overlaps-requires c κs = search needs
 
 is-pair-requires : tie.Need-is-pair-requires Inv-loop μ-loop
 is-pair-requires c κs = search needs
@@ -85,15 +84,15 @@ add-k : tie.Need-add-k Inv-loop μ-loop
 add-k c = search needs
 
 loop-less : tie.Need-loop-less Inv-loop μ-loop
-loop-less c = omega (arith, c .before .before .before .before .before .before .before .loop-test .taken)
+loop-less c = omega (arith, c .before .before .before .before .before .before .loop-test .taken)
 
 loop-again : tie.Need-loop-again Inv-loop μ-loop
 loop-again c =
-    let g = c .before .before .before .before .before .before .before .before .before .before .before .before .before .before .before .before .args in (
-      omega (arith, c .before .before .before .before .before .before .before .loop-test .taken),
-      entered-more (c .before .before .before .before .before .before .before .before .loop .inv .1) (c .marks-by .result) (omega (arith, c .before .before .before .before .before .before .before .loop-test .taken, c .before .before .before .before .before .before .before .before .before .before .before .before .before .before .before .before .pre .1))
-          (λ bytes. between-made bytes (g .x) (g .i .0) (c .before .before .before .before .before .before .before .before .loop .k) refl refl (c .before .before .before .before .before .before .both .ensures) (c .before .before .before .before .before .before .before .before .before .before .kind-of .ensures) (c .before .before .kind-of2 .ensures) (some-shared _ _ (c .before .before .before .before .before .shared-bytes .ensures))
-          (c .before .before .before .before .before .before .before .before .before .attribute-in .ensures ∙ attribute-at (drop 1 bytes) (g .x .lines) _) (c .before .attribute-in2 .ensures ∙ attribute-at (drop 1 bytes) (g .x .lines) _) (c .before .before .before .is-pair .ensures) (c .marks-by .ensures)),
+    let g = c .before .before .before .before .before .before .before .before .before .before .before .before .before .before .before .args in (
+      omega (arith, c .before .before .before .before .before .before .loop-test .taken),
+      entered-more (c .before .before .before .before .before .before .before .loop .inv .1) (c .marks-by .result) (omega (arith, c .before .before .before .before .before .before .loop-test .taken, c .before .before .before .before .before .before .before .before .before .before .before .before .before .before .before .pre .1))
+          (λ bytes. between-made bytes (g .x) (g .i .0) (c .before .before .before .before .before .before .before .loop .k) refl refl (c .before .before .before .before .before .both .ensures) (c .before .before .before .before .before .before .before .before .before .kind-of .ensures) (c .before .before .kind-of2 .ensures) (c .before .before .before .before .overlaps .ensures)
+          (c .before .before .before .before .before .before .before .before .attribute-in .ensures ∙ attribute-at (drop 1 bytes) (g .x .lines) _) (c .before .attribute-in2 .ensures ∙ attribute-at (drop 1 bytes) (g .x .lines) _) (c .before .before .before .is-pair .ensures) (c .marks-by .ensures)),
     )
 
 returns : tie.Need-returns Inv-loop μ-loop
@@ -114,9 +113,9 @@ marks-row-spec =
     loop-holds
     array-read-own
     both-requires
-    array-read-shared-bytes
-    array-read-shared-bytes-2
-    shared-bytes-requires
+    array-read-overlaps
+    array-read-overlaps-2
+    overlaps-requires
     is-pair-requires
     array-read-kind-of-2
     kind-of-requires-2

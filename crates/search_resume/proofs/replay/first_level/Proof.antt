@@ -11,31 +11,23 @@ use Rattle.search_resume.proofs.replay.first_level.Tie as tie
 first-enabled-requires : tie.Need-first-enabled-requires
 first-enabled-requires c κs = search needs
 
-slice-aggregate-put : tie.Need-slice-aggregate-put
-slice-aggregate-put c = search needs
-
 put-requires : tie.Need-put-requires
 put-requires c κs = search needs
-
-slice-aggregate-put-2 : tie.Need-slice-aggregate-put-2
-slice-aggregate-put-2 c = search needs
 
 put-requires-2 : tie.Need-put-requires-2
 put-requires-2 c κs = search needs
 
+same-length : tie.Need-same-length
+same-length c = search needs
+
 returns : tie.Need-returns
 returns c =
-    let a = c .before .before .before .before .before .before .before .args in
-    let e = c .before .before .before .before .before .before .first-enabled .result in
-    levels-none (a .rows .now) (c .before .before .before .before .before .before .before .pre) (e .lo) (e .hi) (c .before .before .before .before .before .before .first-enabled .ensures) (c .before .put2 .ensures ∙ ap (λ (l : List ℕ). putAt l 2 (e .lo) (e .hi)) (c .before .before .before .before .put .ensures))
+    let s = c .before .before .before .before .before .before .before .before .before .before in
+    let e = c .before .before .before .before .before .before .before .before .first-enabled in
+    levels-none (s .args .rows .now) (s .args .levels .now) (s .pre .0) (s .pre .1) (s .pre .2) (s .pre .3) (e .result .lo) (e .result .hi) (e .ensures)
+    (c .before .before .put2 .ensures ∙ ap (λ (l : List ℕ). putAt l 2 (e .result .lo) (e .result .hi)) (c .before .before .before .before .before .before .put .ensures))
 
 pub first-level-spec : {M : Type 1} → statement M
 first-level-spec =
     tie.close
-    (tie.spec
-    first-enabled-requires
-    slice-aggregate-put
-    put-requires
-    slice-aggregate-put-2
-    put-requires-2
-    returns)
+    (tie.spec first-enabled-requires put-requires put-requires-2 same-length returns)

@@ -1,7 +1,5 @@
 -- Each turn tests one entry and makes what is kept of one more.
-use lib.ListN.{length}
 use Rattle.search_resume.proofs.ReplayLaws.{Replaying, replay-done, entry-low, replay-closed, replay-refused, replay-more}
-use mathlib.Core.Path.{refl, ap, _∙_}
 use native.Mathlib.Omega.{arith}
 use Prim.Native.Nat.{_-_}
 use borrow.Author.Needs.{needs}
@@ -9,11 +7,11 @@ use Rattle.search_resume.proofs.replay.replay.Statement.{statement}
 use Rattle.search_resume.proofs.replay.replay.Tie as tie
 
 abbrev Inv-loop : tie.InvT-loop
-Inv-loop n entries₀ size places₀ levels₀ words₀ replaced₀ rows affected j₀ entries places levels words replaced j =
-    Replaying n rows size entries₀ entries places levels words replaced j
+Inv-loop n entries size places₀ levels₀ words₀ replaced₀ rows affected j₀ places levels words replaced j =
+    Replaying n rows size entries places levels words replaced j
 
 abbrev μ-loop : tie.MeasureT-loop
-μ-loop n entries₀ size places₀ levels₀ words₀ replaced₀ rows affected j₀ entries places levels words replaced j =
+μ-loop n entries size places₀ levels₀ words₀ replaced₀ rows affected j₀ places levels words replaced j =
     size - j
 
 loop-holds : tie.Need-loop-holds Inv-loop μ-loop
@@ -23,7 +21,6 @@ loop-holds c =
       few = pre .0 .0;
       room = pre .0 .1;
       within = omega arith;
-      same = refl;
       whole = pre .1 .0;
       long = pre .1 .1;
       wide = pre .1 .2;
@@ -60,24 +57,24 @@ returns c =
 
 enter-requires : tie.Need-enter-requires Inv-loop μ-loop
 enter-requires c κs =
-    let inv = c .before .before .before .before .before .before .before .before .before .before .before .before .before .loop .inv in
-    (omega (arith, inv .few, inv .room, c .before .before .before .before .before .before .before .before .before .before .before .before .loop-test .taken), omega (arith, inv .few, entry-low inv (c .before .before .before .before .before .before .before .before .before .before .wide .result) (c .before .before .before .before .before .before .before .before .before .before .before .before .loop-test .taken) (c .before .before .before .before .before .before .before .before .before .before .wide .ensures .0)), ap length (inv .same) ∙ inv .whole, inv .long, inv .wide)
+    let inv = c .before .before .before .before .before .before .before .before .before .before .before .before .loop .inv in
+    (omega (arith, inv .few, inv .room, c .before .before .before .before .before .before .before .before .before .before .before .loop-test .taken), omega (arith, inv .few, entry-low inv (c .before .before .before .before .before .before .before .before .before .wide .result) (c .before .before .before .before .before .before .before .before .before .before .before .loop-test .taken) (c .before .before .before .before .before .before .before .before .before .wide .ensures .0)), inv .long, inv .wide)
 
 returns-2 : tie.Need-returns-2 Inv-loop μ-loop
 returns-2 c =
-    replay-refused (c .before .before .before .before .before .before .before .before .before .before .before .before .before .before .before .loop .inv) (c .before .before .before .before .before .before .before .before .before .before .before .before .wide .result) (c .before .before .before .before .before .before .before .before .before .before .before .before .before .before .loop-test .taken) (c .before .before .before .before .before .before .before .before .before .before .before .before .wide .ensures .0) (c .before .before .before .before .before .before .before .before .before .at .result .lo) (c .before .before .before .before .before .before .before .before .before .at .result .hi) (c .before .before .before .before .before .before .before .before .before .at .ensures) (c .before .before .before .before .before .before .before .before .has .ensures) (c .before .enter .ensures) (c .if2 .taken)
+    replay-refused (c .before .before .before .before .before .before .before .before .before .before .before .before .before .before .loop .inv) (c .before .before .before .before .before .before .before .before .before .before .before .wide .result) (c .before .before .before .before .before .before .before .before .before .before .before .before .before .loop-test .taken) (c .before .before .before .before .before .before .before .before .before .before .before .wide .ensures .0) (c .before .before .before .before .before .before .before .before .at .result .lo) (c .before .before .before .before .before .before .before .before .at .result .hi) (c .before .before .before .before .before .before .before .before .at .ensures) (c .before .before .before .before .before .before .before .has .ensures) (c .before .enter .ensures) (c .if2 .taken)
 
 add-j : tie.Need-add-j Inv-loop μ-loop
 add-j c =
-    omega (arith, c .before .before .before .before .before .before .before .before .before .before .before .before .before .before .loop-test .taken, c .before .before .before .before .before .before .before .before .before .before .before .before .before .before .before .loop .inv .room, c .before .before .before .before .before .before .before .before .before .before .before .before .before .before .before .loop .inv .few)
+    omega (arith, c .before .before .before .before .before .before .before .before .before .before .before .before .before .loop-test .taken, c .before .before .before .before .before .before .before .before .before .before .before .before .before .before .loop .inv .room, c .before .before .before .before .before .before .before .before .before .before .before .before .before .before .loop .inv .few)
 
 loop-less : tie.Need-loop-less Inv-loop μ-loop
 loop-less c =
-    omega (arith, c .before .before .before .before .before .before .before .before .before .before .before .before .before .before .loop-test .taken)
+    omega (arith, c .before .before .before .before .before .before .before .before .before .before .before .before .before .loop-test .taken)
 
 loop-again : tie.Need-loop-again Inv-loop μ-loop
 loop-again c =
-    replay-more (c .before .before .before .before .before .before .before .before .before .before .before .before .before .before .before .loop .inv) (c .before .before .before .before .before .before .before .before .before .before .before .before .wide .result) (c .before .before .before .before .before .before .before .before .before .before .before .before .before .before .loop-test .taken) (c .before .before .before .before .before .before .before .before .before .before .before .before .wide .ensures .0) (c .before .before .before .before .before .before .before .before .before .at .result .lo) (c .before .before .before .before .before .before .before .before .before .at .result .hi) (c .before .before .before .before .before .before .before .before .before .at .ensures) (c .before .before .before .before .before .before .before .before .has .ensures) (c .before .enter .ensures) (c .before .before .before .before .before .before .before .if1 .left) (c .if2 .left) (c .before .before .before .before .before .before .before .before .before .before .before .before .before .before .before .before .pre .0 .4)
+    replay-more (c .before .before .before .before .before .before .before .before .before .before .before .before .before .before .loop .inv) (c .before .before .before .before .before .before .before .before .before .before .before .wide .result) (c .before .before .before .before .before .before .before .before .before .before .before .before .before .loop-test .taken) (c .before .before .before .before .before .before .before .before .before .before .before .wide .ensures .0) (c .before .before .before .before .before .before .before .before .at .result .lo) (c .before .before .before .before .before .before .before .before .at .result .hi) (c .before .before .before .before .before .before .before .before .at .ensures) (c .before .before .before .before .before .before .before .has .ensures) (c .before .enter .ensures) (c .before .before .before .before .before .before .if1 .left) (c .if2 .left) (c .before .before .before .before .before .before .before .before .before .before .before .before .before .before .before .pre .0 .4)
 
 returns-3 : tie.Need-returns-3 Inv-loop μ-loop
 returns-3 c =

@@ -17,12 +17,12 @@ use Rattle.search_resume.proofs.steps.make_steps.Statement.{statement}
 use Rattle.search_resume.proofs.steps.make_steps.Tie as tie
 
 abbrev Inv-loop : tie.InvT-loop
-Inv-loop n given allowance rows affected entries₀ places₀ levels₀ words₀ replaced₀ reached₀ length₀ steps₀ entries places levels words replaced reached length steps =
+Inv-loop n given places₀ levels₀ words₀ replaced₀ allowance rows affected entries₀ reached₀ length₀ steps₀ places levels words replaced entries reached length steps =
     Going n rows (positionOf given) allowance levels entries places words replaced length steps × (given .length ≤ n) × (ListN.length (given .entries) ≡ 128)
     × (ListN.length reached ≡ 128)
 
 abbrev μ-loop : tie.MeasureT-loop
-μ-loop n given allowance rows affected entries₀ places₀ levels₀ words₀ replaced₀ reached₀ length₀ steps₀ entries places levels words replaced reached length steps =
+μ-loop n given places₀ levels₀ words₀ replaced₀ allowance rows affected entries₀ reached₀ length₀ steps₀ places levels words replaced entries reached length steps =
     allowance - steps
 
 loop-holds : tie.Need-loop-holds Inv-loop μ-loop
