@@ -38,6 +38,26 @@ impl Answers {
     }
 }
 
+/// How often the searches of records ended with each answer.
+#[derive(Default, Debug)]
+pub struct Searched {
+    pub allowed: usize,
+    pub forbidden: usize,
+    pub unfinished: usize,
+}
+
+impl Searched {
+    /// One record's answer more.
+    pub fn count(&mut self, answers: &Answers) {
+        match answers.answer() {
+            SearchAnswer::Allowed => self.allowed += 1,
+            SearchAnswer::Forbidden => self.forbidden += 1,
+            SearchAnswer::Unfinished => self.unfinished += 1,
+            SearchAnswer::Refused(question) => panic!("question {question}"),
+        }
+    }
+}
+
 /// Most states of one length that are counted.
 const MOST_STATES: usize = 1000;
 

@@ -1,6 +1,6 @@
 //! Initial bytes (document 02, P4): a load's byte is held to the initial byte of its own address, and to no other.
 
-use oglindesh::answers::{answers, count_agrees, Answers};
+use oglindesh::answers::{answers, count_agrees, Answers, Searched};
 use oglindesh::beside::{judge, search, search_from_start, verdict};
 use oglindesh::generate::{accesses, execution, give_shown, linked_order, Shape};
 use oglindesh::random::Random;
@@ -164,9 +164,7 @@ fn is_written(e: &Execution, address: usize) -> bool {
 /// How often each answer was given.
 #[derive(Default, Debug)]
 struct Tally {
-    allowed: usize,
-    forbidden: usize,
-    unfinished: usize,
+    searched: Searched,
     /// Positions that a search took, and that question 21 refused.
     taken: usize,
     inconsistent: usize,
@@ -178,12 +176,7 @@ struct Tally {
 
 impl Tally {
     fn count(&mut self, answers: &Answers) {
-        match answers.answer() {
-            SearchAnswer::Allowed => self.allowed += 1,
-            SearchAnswer::Forbidden => self.forbidden += 1,
-            SearchAnswer::Unfinished => self.unfinished += 1,
-            SearchAnswer::Refused(question) => panic!("question {question}"),
-        }
+        self.searched.count(answers);
         for (reply, _) in &answers.resumed {
             match reply.answer {
                 SearchAnswer::Refused(_) => self.inconsistent += 1,
@@ -203,8 +196,8 @@ impl Tally {
     /// Each answer but 'unfinished' was given more often than this.
     fn all_above(&self, least: usize) -> bool {
         let all = [
-            self.allowed,
-            self.forbidden,
+            self.searched.allowed,
+            self.searched.forbidden,
             self.taken,
             self.inconsistent,
             self.legal,

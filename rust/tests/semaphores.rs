@@ -1,6 +1,6 @@
 //! Semaphores (document 02, P3): their entry, questions, operations and rules by hand, the note's lemma 1, and generated records.
 
-use oglindesh::answers::{answers, count_agrees, is_local};
+use oglindesh::answers::{answers, count_agrees, is_local, Searched};
 use oglindesh::beside::{
     chain_table, check, judge, proved_operation_count, search, search_from_start, verdict,
 };
@@ -575,9 +575,7 @@ fn generated_records_have_them() {
 /// What was counted over generated records.
 #[derive(Default, Debug)]
 struct Tally {
-    allowed: usize,
-    forbidden: usize,
-    unfinished: usize,
+    searched: Searched,
     counted: usize,
     /// Legal orders, and those of them with a semaphore and an overlapping own store.
     legal: usize,
@@ -640,12 +638,7 @@ fn all_calls_and_lemma_1() {
         }
         let bytes = e.to_bytes();
         let answers = answers(&e, random.next_u64());
-        match answers.answer() {
-            SearchAnswer::Allowed => tally.allowed += 1,
-            SearchAnswer::Forbidden => tally.forbidden += 1,
-            SearchAnswer::Unfinished => tally.unfinished += 1,
-            SearchAnswer::Refused(question) => panic!("question {question}"),
-        }
+        tally.searched.count(&answers);
         let small = e.operation_count() <= Shape::SMALL.operations;
         if let Some(found) = answers.found() {
             tally.lemma_1(&e, found, judge(&bytes, found));
@@ -660,8 +653,14 @@ fn all_calls_and_lemma_1() {
         tally.counted += usize::from(count_agrees(&e, &answers));
     }
     println!("{tally:?}");
-    assert!(tally.allowed > 300 && tally.forbidden > 300, "{tally:?}");
-    assert!(tally.unfinished > 100 && tally.counted > 400, "{tally:?}");
+    assert!(
+        tally.searched.allowed > 300 && tally.searched.forbidden > 300,
+        "{tally:?}"
+    );
+    assert!(
+        tally.searched.unfinished > 100 && tally.counted > 400,
+        "{tally:?}"
+    );
     assert!(tally.legal > 1000 && tally.beside_own > 100, "{tally:?}");
     let broken = [tally.read_late, tally.parted, tally.local];
     assert!(broken.iter().all(|&count| count > 20), "{tally:?}");

@@ -1,6 +1,6 @@
 //! Accesses of sixteen bytes (document 02, P7): their entry, questions, overlaps and rules by hand, and generated records.
 
-use oglindesh::answers::{answers, count_agrees, is_local, Answers};
+use oglindesh::answers::{answers, count_agrees, is_local, Answers, Searched};
 use oglindesh::beside::{chain_table, check, judge, search, search_from_start, verdict};
 use oglindesh::examples::longest;
 use oglindesh::generate::{
@@ -678,9 +678,7 @@ fn generated_records_have_them() {
 /// What was counted over generated records.
 #[derive(Default, Debug)]
 struct Tally {
-    allowed: usize,
-    forbidden: usize,
-    unfinished: usize,
+    searched: Searched,
     counted: usize,
     /// Of the allowed ones, those with a load whose halves are of two stores.
     of_two: usize,
@@ -692,12 +690,7 @@ struct Tally {
 
 impl Tally {
     fn count(&mut self, e: &Execution, answers: &Answers) {
-        match answers.answer() {
-            SearchAnswer::Allowed => self.allowed += 1,
-            SearchAnswer::Forbidden => self.forbidden += 1,
-            SearchAnswer::Unfinished => self.unfinished += 1,
-            SearchAnswer::Refused(question) => panic!("question {question}"),
-        }
+        self.searched.count(answers);
         let allowed = answers.answer() == SearchAnswer::Allowed;
         self.of_two += usize::from(allowed && sees_two_stores(e));
         for &judged in &answers.judged {
@@ -744,8 +737,14 @@ fn all_calls_and_lemma_1() {
         tally.counted += usize::from(count_agrees(&e, &answers));
     }
     println!("{tally:?}");
-    assert!(tally.allowed > 300 && tally.forbidden > 300, "{tally:?}");
-    assert!(tally.unfinished > 100 && tally.counted > 500, "{tally:?}");
+    assert!(
+        tally.searched.allowed > 300 && tally.searched.forbidden > 300,
+        "{tally:?}"
+    );
+    assert!(
+        tally.searched.unfinished > 100 && tally.counted > 500,
+        "{tally:?}"
+    );
     assert!(tally.of_two > 20 && tally.beside_sixteen > 40, "{tally:?}");
     let rules = tally.judged.iter().filter(|&&count| count > 10).count();
     assert!(rules > 12, "{tally:?}");
@@ -804,7 +803,10 @@ fn halves_exchanged() {
         assert_eq!(answers(&exchanged(&e), seed), expected, "{e:?}");
         tally.count(&e, &expected);
     }
-    assert!(tally.allowed > 200 && tally.forbidden > 200, "{tally:?}");
+    assert!(
+        tally.searched.allowed > 200 && tally.searched.forbidden > 200,
+        "{tally:?}"
+    );
 }
 
 /// Each byte twice.
@@ -857,7 +859,10 @@ fn every_access_twice_as_long() {
         assert_eq!(answers(&twice, seed), expected, "{e:?}");
         tally.count(&e, &expected);
     }
-    assert!(tally.allowed > 200 && tally.forbidden > 200, "{tally:?}");
+    assert!(
+        tally.searched.allowed > 200 && tally.searched.forbidden > 200,
+        "{tally:?}"
+    );
     assert!(long > 1000, "{long} accesses of sixteen bytes");
 }
 
@@ -905,7 +910,10 @@ fn a_half_that_no_other_access_touches() {
         tally.count(&e, &expected);
     }
     println!("{tally:?}, {lower} lower, {upper} upper halves");
-    assert!(tally.allowed > 100 && tally.forbidden > 30, "{tally:?}");
+    assert!(
+        tally.searched.allowed > 100 && tally.searched.forbidden > 30,
+        "{tally:?}"
+    );
     assert!(lower > 100 && upper > 20, "{lower}, {upper}");
 }
 
@@ -932,7 +940,10 @@ fn initial_bytes_that_no_load_reads() {
         assert_eq!(answers(&other, seed), expected, "{e:?}");
         tally.count(&e, &expected);
     }
-    assert!(tally.allowed > 200 && tally.forbidden > 200, "{tally:?}");
+    assert!(
+        tally.searched.allowed > 200 && tally.searched.forbidden > 200,
+        "{tally:?}"
+    );
     assert!(both > 50, "{both} accesses with both lines changed");
 }
 

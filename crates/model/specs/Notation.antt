@@ -59,17 +59,17 @@ abbrev pub sem-rel : ℕ → ℕ → ℕ → List ℕ
 sem-rel address sees writes = semaphore 6 address sees writes
 
 -- an access of sixteen bytes, with one byte in its lower and one in its upper half
-abbrev pub wide : ℕ → ℕ → ℕ → ℕ → List ℕ
-wide kind address low high = entry kind address 16 low ++ (high ∷ replicate 7 0)
+abbrev pub entry16 : ℕ → ℕ → ℕ → ℕ → List ℕ
+entry16 kind address low high = entry kind address 16 low ++ (high ∷ replicate 7 0)
 
 abbrev pub ld16 : ℕ → ℕ → ℕ → List ℕ
-ld16 address low high = wide 0 address low high
+ld16 address low high = entry16 0 address low high
 
 abbrev pub st16 : ℕ → ℕ → ℕ → List ℕ
-st16 address low high = wide 2 address low high
+st16 address low high = entry16 2 address low high
 
 abbrev pub st16-rel : ℕ → ℕ → ℕ → List ℕ
-st16-rel address low high = wide 3 address low high
+st16-rel address low high = entry16 3 address low high
 
 unfoldable pub recordOf : List (List ℕ) → List (List (List ℕ)) → List (ℕ × ℕ) → List ℕ
 recordOf lines programs pairs =

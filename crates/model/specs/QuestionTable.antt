@@ -3,7 +3,7 @@ use Prim.Native.Nat.{ℕ, _+_}
 use mathlib.Core.List.{List, [], _∷_, _++_, map}
 use lib.ListN.{take, drop, replicate}
 use Rattle.base.specs.Lists.{for, count, below}
-use Rattle.model.specs.Notation.{x, y, wb, uc, wc, uc-of, zeros, ld, st, mf, entry, sem-acq, sem-rel, wide, ld16, st16, recordOf}
+use Rattle.model.specs.Notation.{x, y, wb, uc, wc, uc-of, zeros, ld, st, mf, entry, sem-acq, sem-rel, entry16, ld16, st16, recordOf}
 use Rattle.model.specs.Rows.{Row, judged-no, searched-no, tabled-no, cut}
 use Rattle.model.specs.PaperTable.{k1, k2, k11-pair}
 use Rattle.model.specs.RequestTable.{nothing}
@@ -104,10 +104,10 @@ questionTable =
     ∷ refused (only (entry 0 0 15 0)) 7
     ∷ refused (only (entry 0 0 32 0)) 7
     ∷ refused (only (entry 4 0 1 0)) 7
-    ∷ refused (only (wide 4 0 0 0)) 7
-    ∷ refused (only (wide 5 0 0 0)) 7
-    ∷ refused (only (wide 6 0 0 0)) 7
-    ∷ passes (recordOf (wb ∷ wb ∷ []) ((ld16 x 0 0 ∷ wide 1 0 0 0 ∷ st16 x 1 1 ∷ wide 3 0 1 1 ∷ []) ∷ []) [])
+    ∷ refused (only (entry16 4 0 0 0)) 7
+    ∷ refused (only (entry16 5 0 0 0)) 7
+    ∷ refused (only (entry16 6 0 0 0)) 7
+    ∷ passes (recordOf (wb ∷ wb ∷ []) ((ld16 x 0 0 ∷ entry16 1 0 0 0 ∷ st16 x 1 1 ∷ entry16 3 0 1 1 ∷ []) ∷ []) [])
     ∷ passes (programs ((ld x 0 ∷ entry 0 6 2 0 ∷ entry 0 4 4 0 ∷ entry 0 0 8 0 ∷ []) ∷ []))
     -- 8: a multiple of the size, within the lines, of an mf 0
     ∷ refused (only (entry 0 4 8 0)) 8

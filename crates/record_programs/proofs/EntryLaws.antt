@@ -2,8 +2,8 @@
 use Prim.Native.Nat.{ℕ, zero, suc, _+_, _-_, _*_, _/_, _%_, _≤_, _<_}
 use native.Mathlib.Omega.{arith}
 use mathlib.Core.Path.{_≡_, refl, sym, ap, ap₂, _∙_}
-use mathlib.Core.Bool.{Bool, true, false, cond, _&&_, _||_, or-false}
-use mathlib.Core.List.{List, [], _∷_, _++_}
+use mathlib.Core.Bool.{Bool, true, false, cond, _&&_, _||_, or-false, false≢true}
+use mathlib.Core.List.{List, _++_}
 use lib.ListN.{length, getD, take, drop, length-take, length-drop, drop-of-length-le}
 use lib.Seq.{length-take-le, take-suc, take-add, drop-drop}
 use lib.Dec.{eqb, leb, ltb}
@@ -13,18 +13,14 @@ use Rattle.base.specs.Below.{allBelow, anyBelow}
 use Rattle.base.proofs.Bools.{eqb-swap}
 use Rattle.base.proofs.Lists.{member-in, member-append, all-member}
 use Rattle.base.proofs.Tests.{all-same, all-elements, all-count}
-use Rattle.model.specs.Execution.{Kind, Attribute, WC, attributeNumber, Instruction, kindOf, isFence, isSemaphore, linesFrom}
+use Rattle.model.specs.Execution.{Kind, ld, ld-acq, st, st-rel, mf, sem-acq, sem-rel, Attribute, WC, attributeNumber, Instruction, kindOf, isFence, isSemaphore, linesFrom}
 use Rattle.model.proofs.Accepted.{data-within}
-use Rattle.model.specs.Questions.{no-to, found, question6, question7, question8, question26, question27, question9, moreLength, writtenFrom, instructionOf, readInstruction, next, item, ask}
+use Rattle.model.specs.Questions.{no-to, found, question6, question7, question8, question26, question27, question9, sizesOf, moreLength, writtenFrom, instructionOf, readInstruction, next, item, ask}
 use Rattle.record_decoded.specs.declared.types.Asked.{Asked}
 use Rattle.record_decoded.specs.declared.types.Asked.the-variants.{Pass, Fail}
 use Rattle.record_decoded.specs.Steps.{EntryAnswered}
 use Rattle.record_decoded.proofs.DataBytes.{drop-take, take-less}
 use Rattle.record_decoded.proofs.Items.{item-short, item-there, item-first, item-byte, fails, passes}
-
--- the sizes of an access, by whether it is a semaphore; `sizes false` is the table of the code
-abbrev pub sizes : Bool → List ℕ
-sizes semaphore = 1 ∷ 2 ∷ 4 ∷ 8 ∷ cond semaphore [] (16 ∷ [])
 
 -- one of the first n elements, by index
 member-by-index : (l : List ℕ) (n a : ℕ) → n ≤ length l → anyBelow n (λ i. eqb (getD l i 0) a) ≡ member (take n l) a
@@ -40,24 +36,34 @@ module _ (k : Kind) (size : ℕ) where
   unfolding question7 member
   fence-size h = rw h (sym (or-false (eqb 0 size) ∙ eqb-swap 0 size))
 
-  -- a semaphore has the first four sizes of the table, any other access all five
+  -- the table is the sizes of a load; a semaphore has the first four of them, any other access all five
   pub size-by-index : (count : ℕ) → isFence k ≡ false → count ≡ cond (isSemaphore k) 4 5 → count ≤ 5
-      → anyBelow count (λ i. eqb (getD (sizes false) i 0) size) ≡ question7 k size
+      → anyBelow count (λ i. eqb (getD (sizesOf ld) i 0) size) ≡ question7 k size
   unfolding question7
   size-by-index count h c few =
-      rw h (member-by-index (sizes false) count size few ∙ ap (λ (l : List ℕ). member l size) (ap (λ (n : ℕ). take n (sizes false)) c ∙ first (isSemaphore k)))
+      member-by-index (sizesOf ld) count size few ∙ ap (λ (l : List ℕ). member l size) (ap (λ (n : ℕ). take n (sizesOf ld)) c ∙ first k h)
     where
-      first : (b : Bool) → take (cond b 4 5) (sizes false) ≡ sizes b
-      first true = refl
-      first false = refl
+      first : (k : Kind) → isFence k ≡ false → take (cond (isSemaphore k) 4 5) (sizesOf ld) ≡ sizesOf k
+      first ld h = refl
+      first ld-acq h = refl
+      first st h = refl
+      first st-rel h = refl
+      first mf h = absurd (false≢true (sym h))
+      first sem-acq h = refl
+      first sem-rel h = refl
 
   pub size-positive : isFence k ≡ false → question7 k size ≡ true → 0 < size
   unfolding question7 all
-  size-positive h q = ltb-true 0 size (all-member (λ n. ltb 0 n) (member-in (sizes (isSemaphore k)) size (rw h at q)) (each (isSemaphore k)))
+  size-positive h q = ltb-true 0 size (rw h at (all-member (λ n. isFence k || ltb 0 n) (member-in (sizesOf k) size q) (each k)))
     where
-      each : (b : Bool) → all (λ n. ltb 0 n) (sizes b) ≡ true
-      each true = refl
-      each false = refl
+      each : (k : Kind) → all (λ n. isFence k || ltb 0 n) (sizesOf k) ≡ true
+      each ld = refl
+      each ld-acq = refl
+      each st = refl
+      each st-rel = refl
+      each mf = refl
+      each sem-acq = refl
+      each sem-rel = refl
 
   -- question 8
   module _ (lines address : ℕ) where

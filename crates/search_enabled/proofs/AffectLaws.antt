@@ -83,10 +83,10 @@ no-partners plo phi lo hi e t =
     go true s z n h = absurd (false≢true (sym n ∙ h))
     go false s z n h = refl
 
--- one set of the table with y
-pub affected-more : (t : List ℕ) (a y lo hi slo shi k : ℕ) → 2 * a + 1 < length t → slo ≡ getD t (2 * a) 0 → shi ≡ getD t (2 * a + 1) 0
+-- a table of sets, one of them with one member more
+pub set-more : (t : List ℕ) (a y lo hi slo shi k : ℕ) → 2 * a + 1 < length t → slo ≡ getD t (2 * a) 0 → shi ≡ getD t (2 * a + 1) 0
     → ((i : ℕ) → holds lo hi i ≡ (holds slo shi i || eqb i y)) → (b : ℕ) → setAt (putAt t a lo hi) b k ≡ (setAt t b k || (eqb k y && eqb b a))
-affected-more t a y lo hi slo shi k long low high more b = go (ℕ-discrete b a)
+set-more t a y lo hi slo shi k long low high more b = go (ℕ-discrete b a)
   where
     go : Dec (b ≡ a) → setAt (putAt t a lo hi) b k ≡ (setAt t b k || (eqb k y && eqb b a))
     go (yes e) =
@@ -154,9 +154,9 @@ unfolding anyBelow
 writers-more p h s {all} {w} {r} e f g =
     g ∙ ap₂ _||_ e f ∙ or-assoc s (anyBelow h p) (p h) ∙ ap (λ (n : ℕ). s || anyBelow n p) (sym (add-one h))
 
--- the table with those that affect one operation more
-pub affecting-in : (p : ℕ → Bool) (y k : ℕ) (s r : Bool) → s ≡ (ltb k y && p k) → (k ≡ y → r ≡ p y) → (s || (r && eqb k y)) ≡ (ltb k (y + 1) && p k)
-affecting-in p y k s r is here = go (ℕ-discrete k y)
+-- those below y that pass, and y
+pub below-more : (p : ℕ → Bool) (y k : ℕ) (s r : Bool) → s ≡ (ltb k y && p k) → (k ≡ y → r ≡ p y) → (s || (r && eqb k y)) ≡ (ltb k (y + 1) && p k)
+below-more p y k s r is here = go (ℕ-discrete k y)
   where
     go : Dec (k ≡ y) → (s || (r && eqb k y)) ≡ (ltb k (y + 1) && p k)
     go (yes e) =

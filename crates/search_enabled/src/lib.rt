@@ -137,10 +137,10 @@ fn with_writers(
     all
 }
 
-// The operations, of n, that may change whether y is enabled.
-fn all_affecting(n: usize, rows: &[u64; TABLE], writers: &[u64; WRITERS], y: OperationNo) -> Set
-    requires { ⌜ (n ≤ 128) × (y .0 < 128) × (reads (now rows) (y .0) ≡ true → Writing n (now rows) (now writers)) ⌝ }
-    ensures { λ r. ⌜ ((a : ℕ) → a < n → holds (r .lo) (r .hi) a ≡ affects (now (rows .entry)) a (y .0)) ⌝ }
+// The operations that may change whether y is enabled, of as many as `writers` has.
+fn all_affecting(rows: &[u64; TABLE], writers: &[u64; WRITERS], y: OperationNo) -> Set
+    requires { ⌜ y .0 < 128 ⌝ }
+    ensures { λ r. ⌜ ((n a : ℕ) → n ≤ 128 → a < n → (reads (now (rows .entry)) (y .0) ≡ true → Writing n (now (rows .entry)) (now (writers .entry))) → holds (r .lo) (r .hi) a ≡ affects (now (rows .entry)) a (y .0)) ⌝ }
 {
     let preds = set_of(rows, y, PREDS);
     let count = words_read(rows, y);
@@ -174,7 +174,7 @@ pub fn affected_by(n: usize, rows: &[u64; TABLE]) -> [u64; AFFECTED]
     let writers = writers_for_reads(n, rows);
     let mut affected = [0u64; AFFECTED];
     for y in 0..n {
-        let affecting = all_affecting(n, rows, &writers, OperationNo(y));
+        let affecting = all_affecting(rows, &writers, OperationNo(y));
         put_affected(&mut affected, affecting, OperationNo(y));
     }
     affected

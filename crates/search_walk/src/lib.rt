@@ -154,6 +154,7 @@ pub fn walk(
     let mut k = size;
     let mut c = 0;
     let mut candidates = at(levels, SETS * k + OPEN);
+    // The turns that are left.
     let mut left = n * n;
     while left > 0 {
         left -= 1;

@@ -1,19 +1,20 @@
 -- The sizes passed are others; the first that is the given one decides.
 use Prim.Native.Nat.{_-_}
 use mathlib.Core.Path.{refl, sym, _∙_}
-use mathlib.Core.Bool.{false}
+use Rattle.model.specs.Execution.{ld}
+use Rattle.model.specs.Questions.{sizesOf}
 use lib.ListN.{getD}
 use lib.Dec.{eqb}
 use borrow.Author.Tests.{eq-eqb, ne-eqb}
 use Rattle.base.proofs.Tests.{NoneYet, seeks, passes-by, meets, finds-none}
 use Rattle.record_decoded.specs.Kinds.{meant}
-use Rattle.record_programs.proofs.EntryLaws.{sizes, fence-size, size-by-index}
+use Rattle.record_programs.proofs.EntryLaws.{fence-size, size-by-index}
 use borrow.Author.Needs.{needs}
 use Rattle.record_programs.proofs.size_passes.Statement.{statement}
 use Rattle.record_programs.proofs.size_passes.Tie as tie
 
 abbrev Inv-loop : tie.InvT-loop
-Inv-loop size count i₀ i = NoneYet count (λ j. eqb (getD (sizes false) j 0) size) i
+Inv-loop size count i₀ i = NoneYet count (λ j. eqb (getD (sizesOf ld) j 0) size) i
 
 abbrev μ-loop : tie.MeasureT-loop
 μ-loop size count i₀ i = count - i

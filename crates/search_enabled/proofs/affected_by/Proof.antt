@@ -1,5 +1,5 @@
 -- One operation after the other.
-use Rattle.search_enabled.proofs.AffectLaws.{empty-at, affecting-in}
+use Rattle.search_enabled.proofs.AffectLaws.{empty-at, below-more}
 use Rattle.search_enabled.specs.Affects.{affects}
 use Rattle.search_sets.specs.Set.{holds, setAt}
 use borrow.Author.Tests.{le-ltb, lt-ltb}
@@ -30,11 +30,7 @@ loop-holds c = (
 )
 
 all-affecting-requires : tie.Need-all-affecting-requires Inv-loop μ-loop
-all-affecting-requires c κs =
-    let s = c .before .before .before .before in
-    let l = c .before .before .loop in
-    let below = c .before .loop-test .taken in
-    (s .pre, omega (arith, s .pre, below), c .before .before .before .writers-for-reads .ensures (l .y) below)
+all-affecting-requires c κs = search needs
 
 slice-aggregate-put-affected : tie.Need-slice-aggregate-put-affected Inv-loop μ-loop
 slice-aggregate-put-affected c = search needs
@@ -57,7 +53,7 @@ loop-again c =
     let all = c .before .before .before .all-affecting in (
       omega (arith, c .before .before .before .before .before .loop-test .taken),
       λ b k m. put .0 b k (omega (arith, s .pre))
-          ∙ affecting-in (λ i. affects (s .args .rows .now) b i) (l .y) k (setAt (l .affected) b k) (holds (all .result .lo) (all .result .hi) b) (l .inv .1 b k m) (λ e. all .ensures b m),
+          ∙ below-more (λ i. affects (s .args .rows .now) b i) (l .y) k (setAt (l .affected) b k) (holds (all .result .lo) (all .result .hi) b) (l .inv .1 b k m) (λ e. all .ensures (s .args .n) b (s .pre) m (c .before .before .before .before .before .before .before .writers-for-reads .ensures (l .y) (c .before .before .before .before .before .loop-test .taken))),
       put .1,
     )
 

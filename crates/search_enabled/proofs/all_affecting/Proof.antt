@@ -18,7 +18,7 @@ words-read-requires c κs = search needs
 
 returns : tie.Need-returns
 returns c =
-    λ a l. let g = c .before .before .before .args in
+    λ n a few l writing. let g = c .before .before .before .args in
     let s = c .before .before .set-of in
     affects-none (g .rows .now) a (g .y .0) (c .before .words-read .ensures .0) (s .result .lo) (s .result .hi) (s .ensures .0) (s .ensures .1) (c .if1 .taken)
 
@@ -36,15 +36,15 @@ union-requires c κs = search needs
 
 returns-2 : tie.Need-returns-2
 returns-2 c =
-    λ a l. let g = c .before .before .before .before .before .before .before .args in
+    λ n a few l writing. let g = c .before .before .before .before .before .before .before .args in
     let preds = c .before .before .before .before .before .before .set-of in
     let stores = c .before .before .before .set-of2 in
     let locals = c .before .before .with-locals in
     let all = c .before .with-writers in
-    let writing = c .before .before .before .before .before .before .before .pre .2 (ap not (ne-eqb _ 0 (λ e. c .before .before .before .before .if1 .left (c .before .before .before .before .before .words-read .ensures .0 ∙ e)))) in
+    let written = writing (ap not (ne-eqb _ 0 (λ e. c .before .before .before .before .if1 .left (c .before .before .before .before .before .words-read .ensures .0 ∙ e)))) in
     affects-some (g .rows .now) a (g .y .0) (c .before .before .before .before .before .words-read .ensures .0) (preds .result .lo) (preds .result .hi) (stores .result .lo) (stores .result .hi) (locals .result .lo) (locals .result .hi) (all .result .lo) (all .result .hi)
     (preds .ensures .0) (preds .ensures .1) (stores .ensures .0) (stores .ensures .1) (c .before .before .before .before .if1 .left)
-    (locals .ensures a (omega (arith, c .before .before .before .before .before .before .before .pre .0))) (all .ensures a ∙ ap (λ (b : Bool). holds (locals .result .lo) (locals .result .hi) a || b) (any-below-same _ _ _ (λ h m. writing _ a (omega arith) l))) (c .union .ensures a)
+    (locals .ensures a (omega arith)) (all .ensures a ∙ ap (λ (b : Bool). holds (locals .result .lo) (locals .result .hi) a || b) (any-below-same _ _ _ (λ h m. written _ a (omega arith) l))) (c .union .ensures a)
 
 pub all-affecting-spec : {M : Type 1} → statement M
 all-affecting-spec =

@@ -8,7 +8,7 @@ use lib.Dec.{ltb}
 use borrow.Author.Tests.{le-ltb, lt-ltb}
 use Rattle.search_sets.specs.Set.{setAt}
 use Rattle.search_enabled.specs.Affects.{writesAt}
-use Rattle.search_enabled.proofs.AffectLaws.{empty-at, affecting-in}
+use Rattle.search_enabled.proofs.AffectLaws.{empty-at, below-more}
 use borrow.Author.Needs.{needs}
 use Rattle.search_enabled.proofs.all_writers.Statement.{statement}
 use Rattle.search_enabled.proofs.all_writers.Tie as tie
@@ -43,7 +43,7 @@ loop-again c =
     let l = c .before .before .before .before .loop in
     let rows = c .before .before .before .before .before .args .rows .now in (
       omega (arith, c .before .before .before .loop-test .taken),
-      λ p k small. c .before .put-written .ensures .0 p k ∙ affecting-in (λ i. writesAt rows i p) (l .a) k (setAt (l .writers) p k) (writesAt rows (l .a) p) (l .inv .1 p k small) (λ e. refl),
+      λ p k small. c .before .put-written .ensures .0 p k ∙ below-more (λ i. writesAt rows i p) (l .a) k (setAt (l .writers) p k) (writesAt rows (l .a) p) (l .inv .1 p k small) (λ e. refl),
       c .before .put-written .ensures .1,
     )
 

@@ -1,6 +1,6 @@
 -- One of those that affect y after the other.
 use Rattle.search_sets.proofs.Tables.{put-length}
-use Rattle.search_enabled.proofs.AffectLaws.{affected-more}
+use Rattle.search_enabled.proofs.AffectLaws.{set-more}
 use Prim.Native.Nat.{ℕ, _-_}
 use native.Mathlib.Omega.{arith}
 use mathlib.Core.Path.{_≡_, sym, ap, _∙_}
@@ -57,7 +57,7 @@ loop-again c =
     let inv = c .before .before .before .before .before .before .before .before .before .loop .inv in (
       over (s .lo) (s .hi) _ (c .first2 .ensures),
       λ k. taken-past (taken-on (inv .1 k) _ (sym (ap (λ (t : Bool). t && eqb k y) (inv .0 .member (c .before .before .before .before .before .before .before .before .loop-test .taken))))
-          (λ b l. ap (λ (t : List ℕ). setAt t b k) (c .before .before .before .put .ensures) ∙ affected-more (c .before .before .before .before .before .before .before .before .before .loop .affected) (c .before .before .before .before .before .before .before .before .before .loop .a) y (c .before .before .before .before .insert .result .lo) (c .before .before .before .before .insert .result .hi) (c .before .before .before .before .before .before .at .result .lo) (c .before .before .before .before .before .before .at .result .hi) k (omega (arith, inv .2, c .before .before .before .before .before .before .before .before .loop-test .taken)) (c .before .before .before .before .before .before .at .ensures .0) (c .before .before .before .before .before .before .at .ensures .1) (c .before .before .before .before .insert .ensures) b)) _ (c .first2 .ensures .onward)
+          (λ b l. ap (λ (t : List ℕ). setAt t b k) (c .before .before .before .put .ensures) ∙ set-more (c .before .before .before .before .before .before .before .before .before .loop .affected) (c .before .before .before .before .before .before .before .before .before .loop .a) y (c .before .before .before .before .insert .result .lo) (c .before .before .before .before .insert .result .hi) (c .before .before .before .before .before .before .at .result .lo) (c .before .before .before .before .before .before .at .result .hi) k (omega (arith, inv .2, c .before .before .before .before .before .before .before .before .loop-test .taken)) (c .before .before .before .before .before .before .at .ensures .0) (c .before .before .before .before .before .before .at .ensures .1) (c .before .before .before .before .insert .ensures) b)) _ (c .first2 .ensures .onward)
           (λ b f g. ap (λ (t : Bool). t && eqb k y) (c .first2 .ensures .none b f g)),
       ap length (c .before .before .before .put .ensures) ∙ put-length (c .before .before .before .before .before .before .before .before .before .loop .affected) (c .before .before .before .before .before .before .before .before .before .loop .a) (c .before .before .before .before .insert .result .lo) (c .before .before .before .before .insert .result .hi) ∙ inv .2,
     )

@@ -8,7 +8,7 @@ use lib.Dec.{eqb}
 use native.Mathlib.Omega.{arith}
 use Rattle.search_sets.specs.Set.{setAt}
 use Rattle.search_sets.proofs.Tables.{put-length}
-use Rattle.search_enabled.proofs.AffectLaws.{affected-more}
+use Rattle.search_enabled.proofs.AffectLaws.{set-more}
 use borrow.Author.Needs.{needs}
 use Rattle.search_enabled.proofs.put_writer.Statement.{statement}
 use Rattle.search_enabled.proofs.put_writer.Tie as tie
@@ -37,7 +37,7 @@ returns c =
     let was = c .before .before .before .before .before .at in
     let set = c .before .before .before .insert in (
       λ p k. ap (λ (l : List ℕ). setAt l p k) (c .before .before .put .ensures)
-          ∙ affected-more t place a (set .result .lo) (set .result .hi) (was .result .lo) (was .result .hi) k (omega (arith, s .pre .2)) (was .ensures .0) (was .ensures .1) (set .ensures) p
+          ∙ set-more t place a (set .result .lo) (set .result .hi) (was .result .lo) (was .result .hi) k (omega (arith, s .pre .2)) (was .ensures .0) (was .ensures .1) (set .ensures) p
           ∙ ap (λ (b : Bool). setAt t p k || b) (and-comm (eqb k a) (eqb p place)),
       ap length (c .before .before .put .ensures) ∙ put-length t place (set .result .lo) (set .result .hi) ∙ s .pre .2,
     )
