@@ -203,6 +203,16 @@ module _ {A B : Type 0} where
   unfolding for
   for-one a f = append-nil (f a)
 
+  pub for-map : {C : Type 0} (f : A → B) (g : B → List C) (l : List A) → for (map f l) g ≡ for l (λ a. g (f a))
+  unfolding for
+  for-map {C} f g [] = refl
+  for-map {C} f g (a ∷ l) = ap (λ (t : List C). g (f a) ++ t) (for-map f g l)
+
+  pub for-same : (f g : A → List B) (l : List A) → ((a : A) → List·Memᴰ a l → f a ≡ g a) → for l f ≡ for l g
+  unfolding for
+  for-same f g [] h = refl
+  for-same f g (a ∷ l) h = ap₂ (λ (s t : List B). s ++ t) (h a (List·Memᴰ·head refl)) (for-same f g l (λ b m. h b (List·Memᴰ·tail m)))
+
   pub in-for : (f : A → List B) {a : A} {z : B} {l : List A} → List·Memᴰ a l → List·Memᴰ z (f a) → List·Memᴰ z (for l f)
   unfolding for
   in-for f {a} {z} (List·Memᴰ·head {x = x} {xs = xs} e) h = Memᴰ·append-left (for xs f) (subst (λ (c : A). List·Memᴰ z (f c)) e h)
@@ -383,6 +393,15 @@ distinct-first n passed (x ∷ xs) ys h =
 
 -- lists kept and mapped one after the other
 module _ {A : Type 0} where
+  pub keep-append : (p : A → Bool) (l m : List A) → keep p (l ++ m) ≡ keep p l ++ keep p m
+  unfolding keep
+  keep-append p [] m = refl
+  keep-append p (a ∷ l) m = go (p a) (keep-append p l m)
+    where
+      go : (b : Bool) → keep p (l ++ m) ≡ keep p l ++ keep p m → cond b (a ∷ keep p (l ++ m)) (keep p (l ++ m)) ≡ cond b (a ∷ keep p l) (keep p l) ++ keep p m
+      go true e = ap (λ (t : List A). a ∷ t) e
+      go false e = e
+
   pub keep-keep : (p q : A → Bool) (l : List A) → keep p (keep q l) ≡ keep (λ a. q a && p a) l
   unfolding keep
   keep-keep p q [] = refl

@@ -6,6 +6,7 @@ use mathlib.Core.List.{List}
 use Rattle.model.specs.Search.{Verdict, allowed, forbidden, unfinished}
 use Rattle.model.specs.Calls as calls
 use Rattle.capi.specs.declared.SearchReply.{SearchReply}
+use Rattle.capi.specs.declared.RecordReply.{RecordReply}
 use Rattle.model.specs.Calls.{Answer, says, refuses, Judgement, legal, breaks, Done, done}
 
 -- 0 for a record that is accepted
@@ -19,10 +20,10 @@ judgeNumber (says legal) = 0
 judgeNumber (says (breaks k)) = k
 judgeNumber (refuses q) = 256 + q
 
--- 0 for a table that is written
-abbrev pub chainsNumber : Answer Done → ℕ
-chainsNumber (says done) = 0
-chainsNumber (refuses q) = 256 + q
+-- 0 for a table or a record that is written
+abbrev pub doneNumber : Answer Done → ℕ
+doneNumber (says done) = 0
+doneNumber (refuses q) = 256 + q
 
 -- 0 unfinished, 1 allowed, 2 forbidden
 abbrev pub searchNumber : Answer Verdict → ℕ
@@ -35,5 +36,11 @@ searchNumber (refuses q) = 256 + q
 pub record Searched (call : calls.SearchReply) (r : SearchReply) (buffer : List ℕ) : Type 0 where
   pub answer-is : r .answer ≡ searchNumber (call .answer)
   pub steps-are : r .steps ≡ call .steps
+  pub length-is : r .length ≡ call .length
+  pub buffer-is : buffer ≡ call .buffer
+
+-- the same of a record that is written
+pub record Recorded (call : calls.RecordReply) (r : RecordReply) (buffer : List ℕ) : Type 0 where
+  pub answer-is : r .answer ≡ doneNumber (call .answer)
   pub length-is : r .length ≡ call .length
   pub buffer-is : buffer ≡ call .buffer

@@ -1,13 +1,15 @@
 // The calls open to C and Rust: each answer as a number. A slice passes as a pointer, then its length.
 ghost use mathlib.Core.Path.{_≡_};
 ghost use Rattle.model.specs.Calls.{readAll, judgeCall, tableCall, searchCall};
-ghost use Rattle.capi.specs.Numbers.{checkNumber, judgeNumber, chainsNumber, Searched};
+ghost use Rattle.model.specs.Sections.{sectionsFrom, writeCall};
+ghost use Rattle.capi.specs.Numbers.{checkNumber, judgeNumber, doneNumber, Searched, Recorded};
 use judge_call::Judgement;
 use record_reader::reader::Answer;
+use record_writer::WriteAnswer;
 use relation_chain_table::TableAnswer;
 use search_call::call::SearchAnswer;
 
-// Whether a record passes questions 1 to 15 and 26: 0, or 256 + the first question that fails.
+// Whether a record passes questions 1 to 15, 26 and 27: 0, or 256 + the first question that fails.
 #[no_mangle]
 pub extern "C" fn oglindesh_check(bytes: &[u8]) -> u32
     ensures { λ r. ⌜ r ≡ checkNumber (readAll (now (bytes .entry))) ⌝ }
@@ -36,7 +38,7 @@ pub extern "C" fn oglindesh_judge(bytes: &[u8], order: &[u8]) -> u32
 // Writes the chain table: 0, or 256 + the first question that fails.
 #[no_mangle]
 pub extern "C" fn oglindesh_chains(bytes: &[u8], table: &mut [u8]) -> u32
-    ensures { λ r. ⌜ (r ≡ chainsNumber ((tableCall (now (bytes .entry)) (now (table .entry))) .answer)) × (now (table .exit) ≡ (tableCall (now (bytes .entry)) (now (table .entry))) .table) ⌝ }
+    ensures { λ r. ⌜ (r ≡ doneNumber ((tableCall (now (bytes .entry)) (now (table .entry))) .answer)) × (now (table .exit) ≡ (tableCall (now (bytes .entry)) (now (table .entry))) .table) ⌝ }
 {
     let answer = relation_chain_table::chain_table(bytes, table);
     match answer {
@@ -87,6 +89,36 @@ pub extern "C" fn oglindesh_search(
         SearchAnswer::Refused(q) => SearchReply {
             answer: 256 + q as u32,
             steps,
+            length,
+        },
+    }
+}
+
+// The answer as a number, and the length of the record that is written at the front of the buffer.
+#[repr(C)]
+pub struct RecordReply {
+    pub answer: u32,
+    pub length: usize,
+}
+
+// Writes the record of separate sections. The answer is 0, or 256 + the first question that fails; then the length is 0.
+#[no_mangle]
+pub extern "C" fn oglindesh_write(
+    processors: u8,
+    lines: &[u8],
+    instructions: &[u8],
+    pairs: &[u8],
+    buffer: &mut [u8],
+) -> RecordReply
+    ensures { λ r. ⌜ Recorded (writeCall (sectionsFrom processors (now (lines .entry)) (now (instructions .entry)) (now (pairs .entry))) (now (buffer .entry))) r (now (buffer .exit)) ⌝ }
+{
+    let written = record_writer::write(processors, lines, instructions, pairs, buffer);
+    let answer = written.answer;
+    let length = written.length;
+    match answer {
+        WriteAnswer::Done => RecordReply { answer: 0, length },
+        WriteAnswer::Refused(q) => RecordReply {
+            answer: 256 + q as u32,
             length,
         },
     }

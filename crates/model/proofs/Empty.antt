@@ -24,7 +24,7 @@ use Rattle.model.proofs.Consistent.{keeps-empty}
 use Rattle.model.proofs.Legal.{found-says, legal-consistent}
 
 -- an item at the front
-item-front : (n : ℕ) (x rest : List ℕ) → length x ≡ n → item n (x ++ rest) ≡ found x rest
+pub item-front : (n : ℕ) (x rest : List ℕ) → length x ≡ n → item n (x ++ rest) ≡ found x rest
 unfolding item
 item-front n x rest h = rw (le-leb n (length (x ++ rest)) (omega (arith, length-append x rest)), take-at x rest n h, drop-at x rest n h)
 

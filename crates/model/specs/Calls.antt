@@ -142,3 +142,15 @@ tabling bytes table = do
 
 unfoldable pub tableCall : List ℕ → List ℕ → TableReply
 tableCall bytes table = tableReply table (tabling bytes table)
+
+-- A record written into a buffer
+
+pub record RecordReply : Type 0 where
+  pub answer : Answer Done
+  pub length : ℕ
+  pub buffer : List ℕ
+
+-- A refusal has length 0 and leaves the buffer as it came; else the record is written at its front.
+unfoldable pub recordReply : List ℕ → Answer (List ℕ) → RecordReply
+recordReply buffer (refuses q) = record { answer = refuses q; length = 0; buffer = buffer }
+recordReply buffer (says bytes) = record { answer = says done; length = length bytes; buffer = bytes ++ drop (length bytes) buffer }

@@ -13,6 +13,16 @@ pub data Kind : Type 0 where
 abbrev pub kindOf : ℕ → Kind
 kindOf k = getD (ld ∷ ld-acq ∷ st ∷ st-rel ∷ mf ∷ sem-acq ∷ []) k sem-rel
 
+-- the number of a kind; `kindOf` turns it back
+abbrev pub kindNumber : Kind → ℕ
+kindNumber ld = 0
+kindNumber ld-acq = 1
+kindNumber st = 2
+kindNumber st-rel = 3
+kindNumber mf = 4
+kindNumber sem-acq = 5
+kindNumber sem-rel = 6
+
 -- What an operation is to its instruction. RV q is remote visibility to processor q.
 pub data Role : Type 0 where
   R LV F : Role

@@ -9,6 +9,7 @@ pub mod Calls
 pub mod Accepted
 pub mod Courses
 pub mod Verdict
+pub mod Sections
 pub mod Notation
 pub mod Claims
 pub mod Rows

@@ -4,14 +4,15 @@ use mathlib.Core.Bool.{true}
 use mathlib.Core.List.{List, [], _∷_, _++_}
 use mathlib.Core.Option.{some}
 use lib.ListN.{replicate}
-use Rattle.base.specs.Lists.{count}
+use Rattle.base.specs.Lists.{for, count}
 use Rattle.model.specs.Search.{allowed, forbidden}
 use Rattle.model.specs.Calls.{says, legal, breaks}
 use Rattle.model.specs.Courses.{proper, other}
 use Rattle.model.specs.Verdict.{wordAllowed, wordSteps}
-use Rattle.model.specs.Notation.{x, y, wb, uc, uc-of, ld, st, st-rel, mf, sem-acq, sem-rel, ld16, st16, st16-rel, recordOf}
+use Rattle.model.specs.Notation.{x, y, wb, uc, uc-of, ld, st, st-rel, mf, sem-acq, sem-rel, ld16, st16, st16-rel, zeros, recordOf}
 use Rattle.model.specs.RuleTable.{one, one-pair, two}
-use Rattle.model.specs.Rows.{Row, lent, judged, searched, tabled, printed, followed}
+use Rattle.model.specs.Sections.{Sections, sectionsFrom}
+use Rattle.model.specs.Rows.{Row, lent, judged, searched, tabled, printed, followed, composed, composed-no}
 
 -- P2: two processors, and nothing in their programs
 unfoldable pub nothing : List ℕ
@@ -36,6 +37,17 @@ alone program = recordOf (wb ∷ []) (program ∷ []) []
 -- P7: a store to the upper half and one to the lower half of a load of sixteen bytes, one of them of the load's processor
 abbrev halves : ℕ → ℕ → List ℕ
 halves low high = two wb wb (st x 1 ∷ []) (st y 2 ∷ ld16 x low high ∷ [])
+
+-- P1: a section of instructions, each entry behind its processor; and sections with WB lines of x and y
+abbrev placed : List (ℕ × List ℕ) → List ℕ
+placed entries = for entries (λ e. e .0 ∷ e .1)
+
+abbrev onXY : ℕ → List (ℕ × List ℕ) → List ℕ → Sections
+onXY p entries pairs = sectionsFrom p (wb ++ wb) (placed entries) pairs
+
+-- an entry of eleven bytes
+abbrev short : ℕ → ℕ → List ℕ
+short kind size = kind ∷ 0 ∷ size ∷ replicate 8 0
 
 unfoldable pub requestTable : List Row
 requestTable =
@@ -165,4 +177,41 @@ requestTable =
     ∷ searched (two wb wb (st16 x 1 2 ∷ []) (ld16 x 1 0 ∷ [])) [] 1000 forbidden 3 []
     ∷ searched (one wb wb (st16 x 1 2 ∷ ld y 2 ∷ [])) [] 1000 allowed 3 (0 ∷ 1 ∷ 2 ∷ [])
     ∷ tabled (one wb wb (st16 x 1 2 ∷ ld y 2 ∷ [])) (0 ∷ 1 ∷ 1 ∷ 0 ∷ 0 ∷ 0 ∷ 0 ∷ 0 ∷ 0 ∷ [])
+    -- P1: instructions grouped by processor, their order kept within each; pairs by the numbers after grouping. The record wanted is put down in the notation
+    ∷ composed (onXY 2 ((1, ld y 0) ∷ (0, st x 1) ∷ (1, sem-acq x 0 1) ∷ (0, ld16 x 0 0) ∷ (0, mf) ∷ []) (3 ∷ 4 ∷ []))
+    (recordOf (wb ∷ wb ∷ []) ((st x 1 ∷ ld16 x 0 0 ∷ mf ∷ []) ∷ (ld y 0 ∷ sem-acq x 0 1 ∷ []) ∷ []) ((3, 4) ∷ []))
+    ∷ composed (onXY 3 ((1, ld x 0) ∷ []) []) (recordOf (wb ∷ wb ∷ []) ([] ∷ (ld x 0 ∷ []) ∷ [] ∷ []) [])
+    ∷ composed (sectionsFrom 2 wb [] []) nothing
+    -- P1, 23: a section that is not a whole number of entries, also where 24 fails. Twelve bytes are too few for a semaphore, and for size 16 of kinds 0 to 3
+    ∷ composed-no (sectionsFrom 1 (0 ∷ wb) [] []) lent 23
+    ∷ composed-no (onXY 1 [] (0 ∷ [])) lent 23
+    ∷ composed-no (sectionsFrom 0 wb (replicate 11 0) []) lent 23
+    ∷ composed-no (onXY 1 ((0, short 5 3) ∷ []) []) lent 23
+    ∷ composed-no (onXY 1 ((0, short 6 16) ∷ []) []) lent 23
+    ∷ composed-no (onXY 1 ((0, short 3 16) ∷ []) []) lent 23
+    ∷ composed-no (onXY 1 ((9, mf) ∷ (0, short 0 16) ∷ []) []) lent 23
+    -- P1: a semaphore has twenty bytes at any size, also one that question 7 refuses; an mf, and a kind that is not known, counts as twelve
+    ∷ composed-no (onXY 1 ((0, short 5 3 ++ replicate 8 0) ∷ []) []) lent 7
+    ∷ composed-no (onXY 1 ((0, short 6 16 ++ replicate 8 0) ∷ []) []) lent 7
+    ∷ composed-no (onXY 1 ((0, short 4 16) ∷ []) []) lent 7
+    ∷ composed-no (onXY 1 ((0, short 7 16) ∷ (0, short 8 16) ∷ []) []) lent 6
+    -- P1, 24: a processor number that is not below P; without an instruction none is asked
+    ∷ composed-no (onXY 2 ((0, mf) ∷ (2, short 7 1) ∷ []) []) lent 24
+    ∷ composed-no (onXY 0 ((0, mf) ∷ []) []) lent 24
+    ∷ composed-no (onXY 0 [] []) lent 2
+    ∷ composed-no (onXY 9 ((8, mf) ∷ []) []) lent 2
+    -- P1: the first failed question of the record. A count over 255 is no smaller one: 257 lines are not 1, 256 instructions not none, 256 pairs not none; it
+    -- fails where the walk meets it
+    ∷ composed-no (sectionsFrom 1 (for (replicate 257 wb) (λ l. l)) [] []) lent 3
+    ∷ composed-no (sectionsFrom 1 [] [] []) lent 3
+    ∷ composed-no (onXY 1 (replicate 256 (0, mf)) []) lent 5
+    ∷ composed-no (onXY 2 (replicate 256 (1, mf) ++ ((0, short 7 1) ∷ [])) []) lent 6
+    ∷ composed-no (sectionsFrom 9 (for (replicate 257 wb) (λ l. l)) [] []) lent 2
+    ∷ composed-no (onXY 1 ((0, ld x 0) ∷ []) (replicate 512 0)) lent 12
+    ∷ composed-no (onXY 1 ((0, ld x 0) ∷ (0, ld x 0) ∷ (0, ld x 0) ∷ []) (1 ∷ 2 ∷ 0 ∷ 1 ∷ [])) lent 14
+    ∷ composed-no (sectionsFrom 1 uc (placed ((0, sem-acq x 0 1) ∷ [])) []) lent 26
+    ∷ composed-no (sectionsFrom 1 (uc ++ wb) (placed ((0, st16 x 0 1) ∷ [])) []) lent 27
+    -- P1, 25: a buffer shorter than the record, asked last
+    ∷ composed-no (sectionsFrom 2 wb [] []) (replicate 13 5) 25
+    ∷ composed-no (sectionsFrom 2 (zeros 3) [] []) [] 4
     ∷ []

@@ -5,9 +5,10 @@ use mathlib.Core.List.{List, [], _∷_, _++_, map}
 use lib.ListN.{length, take, drop, replicate}
 use Rattle.base.specs.Lists.{below}
 use Rattle.model.specs.Search.{Verdict}
-use Rattle.model.specs.Calls.{Answer, says, refuses, Judgement, judgeCall, SearchReply, searchCall, done, TableReply, tableCall}
+use Rattle.model.specs.Calls.{Answer, says, refuses, Judgement, judgeCall, SearchReply, searchCall, done, TableReply, tableCall, RecordReply}
 use Rattle.model.specs.Courses.{Call, Course, start, course}
 use Rattle.model.specs.Verdict.{verdictLines}
+use Rattle.model.specs.Sections.{Sections, writeCall}
 
 -- a buffer to lend, and the same with a position at its front
 abbrev pub lent : List ℕ
@@ -25,6 +26,8 @@ pub data Row : Type 0 where
   tabled-no : List ℕ → List ℕ → ℕ → Row  -- record and table; the question that refuses them
   printed : List ℕ → List ℕ → Row  -- input of the verdict program; its output
   followed : List ℕ → List Call → Course → Row  -- record and list of search calls over the buffer; how far they come
+  composed : Sections → List ℕ → Row  -- sections; the record written into a longer buffer
+  composed-no : Sections → List ℕ → ℕ → Row  -- sections and buffer; the question that refuses them
   cut : List ℕ → ℕ → Row  -- record; the question that refuses each shorter part from its start
 
 pub data Result : Type 0 where
@@ -33,6 +36,7 @@ pub data Result : Type 0 where
   filled : TableReply → Result
   output : List ℕ → Result
   followed-to : Course → Result
+  recorded : RecordReply → Result
 
 -- what the call answers
 unfoldable pub made : Row → Result
@@ -44,6 +48,8 @@ made (tabled bytes marks) = filled (tableCall bytes (replicate (length marks) 7 
 made (tabled-no bytes table q) = filled (tableCall bytes table)
 made (printed input text) = output (verdictLines input)
 made (followed bytes calls t) = followed-to (course bytes calls (start lent))
+made (composed s bytes) = recorded (writeCall s (replicate (length bytes) 7 ++ lent))
+made (composed-no s buffer q) = recorded (writeCall s buffer)
 made (cut bytes q) = judgements (map (λ n. judgeCall (take n bytes) []) (below (length bytes)))
 
 -- what it must answer
@@ -58,6 +64,8 @@ wanted (tabled bytes marks) = filled (record { answer = says done; table = marks
 wanted (tabled-no bytes table q) = filled (record { answer = refuses q; table = table })
 wanted (printed input text) = output text
 wanted (followed bytes calls t) = followed-to t
+wanted (composed s bytes) = recorded (record { answer = says done; length = length bytes; buffer = bytes ++ lent })
+wanted (composed-no s buffer q) = recorded (record { answer = refuses q; length = 0; buffer = buffer })
 wanted (cut bytes q) = judgements (replicate (length bytes) (refuses q))
 
 -- every row of a table holds

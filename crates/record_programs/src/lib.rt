@@ -111,7 +111,7 @@ fn one_attribute(lines: Lines, size: u8, address: u8) -> bool
 }
 
 // The bytes that an instruction has after the first eleven.
-fn more_length(k: Kind, size: u8) -> usize
+pub fn more_length(k: Kind, size: u8) -> usize
     ensures { λ r. ⌜ (r ≡ moreLength (meant k) size) × (r ≤ 8) ⌝ }
 {
     if is_semaphore(k) {

@@ -2,7 +2,7 @@
 use mathlib.Core.Path.{sym, ap, _∙_}
 use Rattle.model.specs.Calls.{TableReply}
 use Rattle.relation_chain_table.specs.Replies.{replyOf}
-use Rattle.capi.specs.Numbers.{chainsNumber}
+use Rattle.capi.specs.Numbers.{doneNumber}
 use borrow.Author.Needs.{needs}
 use Rattle.capi.proofs.oglindesh_chains.Statement.{statement}
 use Rattle.capi.proofs.oglindesh_chains.Tie as tie
@@ -28,7 +28,7 @@ same-length c = search needs
 returns : tie.Need-returns
 returns c =
     let reply = c .before .before .before .before .chain-table in (
-      sym (ap (λ (r : TableReply). chainsNumber (r .answer)) (sym (reply .ensures) ∙ ap (λ t. replyOf t (reply .last .1 .0)) (c .enum-told .given .1))),
+      sym (ap (λ (r : TableReply). doneNumber (r .answer)) (sym (reply .ensures) ∙ ap (λ t. replyOf t (reply .last .1 .0)) (c .enum-told .given .1))),
       ap (λ (r : TableReply). r .table) (reply .ensures),
     )
 
@@ -38,7 +38,7 @@ same-length-2 c = search needs
 returns-2 : tie.Need-returns-2
 returns-2 c =
     let reply = c .before .before .before .before .before .chain-table in (
-      sym (ap (λ (r : TableReply). chainsNumber (r .answer)) (sym (reply .ensures) ∙ ap (λ t. replyOf t (reply .last .1 .0)) (c .before .answer .given .1))),
+      sym (ap (λ (r : TableReply). doneNumber (r .answer)) (sym (reply .ensures) ∙ ap (λ t. replyOf t (reply .last .1 .0)) (c .before .answer .given .1))),
       ap (λ (r : TableReply). r .table) (reply .ensures),
     )
 

@@ -1,0 +1,1 @@
+// The claims of the separate sections: no code, their proofs alone.

@@ -1,0 +1,4 @@
+-- The definitions of this crate.
+pub mod Puts
+pub mod Cut
+pub mod Replies
