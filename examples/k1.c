@@ -1,5 +1,6 @@
-/* K1 (one processor: st x=1, ld x sees 1) through every call; then a record with no instruction, one of UC memory with its
- * domains, a lock that two processors take, and a load of sixteen bytes. k1.txt is what it prints. */
+/* K1 (one processor: st x=1, ld x sees 1) through every call that takes a record; then a record with no instruction, one of UC
+ * memory with its domains, a lock that two processors take, a load of sixteen bytes, and a record that is written out of lines
+ * and instructions prepared apart. k1.txt is what it prints. */
 #include "oglindesh.h"
 #include <stdio.h>
 
@@ -62,6 +63,16 @@ static uint8_t halves[] = {
     0,                                /* no pair */
 };
 
+/* K11 with ld for ld.acq (st x=1, st x=2; ld x sees 2, ld x sees 1), its line and its instructions apart and without counts. An
+ * instruction begins with the number of its processor; they stand in the order in which they were written down. */
+static const uint8_t lines[] = {0, 0, 0, 0, 0, 0, 0, 0, 0}; /* WB, eight initial bytes */
+static const uint8_t instructions[] = {
+    1, 0, 0, 1, 2, 0, 0, 0, 0, 0, 0, 0, /* processor 1: ld, address 0, size 1, sees 2 */
+    0, 2, 0, 1, 1, 0, 0, 0, 0, 0, 0, 0, /* processor 0: st, address 0, size 1, writes 1 */
+    1, 0, 0, 1, 1, 0, 0, 0, 0, 0, 0, 0, /* processor 1: ld, address 0, size 1, sees 1 */
+    0, 2, 0, 1, 2, 0, 0, 0, 0, 0, 0, 0, /* processor 0: st, address 0, size 1, writes 2 */
+};
+
 static void say_judgement(const uint8_t *record, size_t length, const uint8_t *order, size_t entries)
 {
     uint32_t number = oglindesh_judge(record, length, order, entries);
@@ -110,10 +121,26 @@ static void print_chains(void)
                 printf("links lead from %zu to %zu\n", a, b);
 }
 
+/* Writes their record for so many processors, with these pairs, to a buffer of so many bytes, and searches it. */
+static void write_and_search(uint8_t processors, const uint8_t *pairs, size_t pairs_length, size_t room)
+{
+    uint8_t record[OGLINDESH_MAX_RECORD];
+    struct oglindesh_reply reply = oglindesh_write(processors, lines, sizeof lines, instructions, sizeof instructions, pairs,
+                                                   pairs_length, record, room);
+
+    if (reply.answer != OGLINDESH_DONE) {
+        printf("question %u refuses to write the record\n", (unsigned)(reply.answer - OGLINDESH_REFUSED));
+        return;
+    }
+    printf("%zu bytes are written\n", reply.length);
+    search_in_parts(record, reply.length, 1000);
+}
+
 int main(void)
 {
     static const uint8_t local[] = {0, 2, 1}, remote_first[] = {1, 0, 2}, turned[] = {1, 0};
     static const uint8_t both_free[] = {0, 4, 1, 2, 3, 5, 7, 6};
+    static const uint8_t loads[] = {2, 3}, as_they_stand[] = {0, 2};
 
     printf("check: %u\n", (unsigned)oglindesh_check(k1, sizeof k1));
     printf("check of a shorter record: %u\n", (unsigned)oglindesh_check(k1, sizeof k1 - 1));
@@ -134,5 +161,12 @@ int main(void)
     search_in_parts(halves, sizeof halves, 100);
     halves[UPPER_LINE] = 1; /* UC beside WB */
     search_in_parts(halves, sizeof halves, 100);
+    write_and_search(2, loads, 0, OGLINDESH_MAX_RECORD); /* no pair */
+    write_and_search(2, loads, sizeof loads, OGLINDESH_MAX_RECORD);
+    /* In the record the loads are instructions 2 and 3, whose processor comes second; 0 and 2 are of two processors. */
+    write_and_search(2, as_they_stand, sizeof as_they_stand, OGLINDESH_MAX_RECORD);
+    write_and_search(2, loads, 1, OGLINDESH_MAX_RECORD);            /* half a pair */
+    write_and_search(1, loads, sizeof loads, OGLINDESH_MAX_RECORD); /* without processor 1 */
+    write_and_search(2, loads, sizeof loads, 59);                   /* a byte too little room */
     return 0;
 }

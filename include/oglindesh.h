@@ -5,12 +5,13 @@
  *
  * In every call:
  * - A pointer and the length after it are of one array of bytes. The pointer is not NULL, also where the length is 0.
- * - A record and an order are only read. A buffer or a table is lent for the call; it overlaps no other array of the call.
+ * - A record, its sections and an order are only read. A buffer or a table is lent for the call; it overlaps no other array of
+ *   the call.
  * - A number from OGLINDESH_REFUSED + 1 on says that a question refuses the call: it is OGLINDESH_REFUSED + the number of the
  *   first question answered 'no'. Then no lent byte has changed.
  * - Nothing is kept between calls, so calls on different arrays may be made at the same time.
- * - Nothing is taken from the heap. What a call needs of the stack does not depend on the record; measured and rounded up:
- *   oglindesh_check 16 KB, oglindesh_judge 20 KB, oglindesh_search 64 KB, oglindesh_chains 48 KB.
+ * - Nothing is taken from the heap. What a call needs of the stack does not depend on what it is given; measured and rounded up:
+ *   oglindesh_check 16 KB, oglindesh_judge 20 KB, oglindesh_search 64 KB, oglindesh_chains 48 KB, oglindesh_write 16 KB.
  */
 #ifndef OGLINDESH_H
 #define OGLINDESH_H
@@ -25,8 +26,8 @@ extern "C" {
 /* The version of what is declared here. MAJOR goes up where a caller has to change: a call, an answer's number, a question or the
  * layout of a record is another. MINOR goes up where something is added; while MAJOR is 0, for both. */
 #define OGLINDESH_VERSION_MAJOR 0
-#define OGLINDESH_VERSION_MINOR 5
-#define OGLINDESH_VERSION "0.5"
+#define OGLINDESH_VERSION_MINOR 6
+#define OGLINDESH_VERSION "0.6"
 
 /* What a refused call returns, less the number of the question. */
 #define OGLINDESH_REFUSED 256u
@@ -59,8 +60,13 @@ extern "C" {
 #define OGLINDESH_REFUSED_SAVED_INCONSISTENT (OGLINDESH_REFUSED + 21u) /* is the saved position consistent? */
 /* Of a chain table: */
 #define OGLINDESH_REFUSED_SHORT_TABLE (OGLINDESH_REFUSED + 22u) /* has it N * N bytes or more? */
+/* Of the sections that a record is written out of, and of the buffer that it is written to: */
+#define OGLINDESH_REFUSED_PARTIAL_ENTRY (OGLINDESH_REFUSED + 23u)   /* is each section a whole number of entries? */
+#define OGLINDESH_REFUSED_WRONG_PROCESSOR (OGLINDESH_REFUSED + 24u) /* is each below the number of processors? */
+#define OGLINDESH_REFUSED_SHORT_OUTPUT (OGLINDESH_REFUSED + 25u)    /* has the buffer the record's length or more? */
 
-/* No record is longer: 8 lines, 40 instructions of 19 bytes (such as loads of 16) on 8 processors, 40 pairs, and the counts. */
+/* No record is longer: 8 lines, 40 instructions of 19 bytes (such as loads of 16) on 8 processors, 40 pairs, and the counts. A
+ * buffer of this many bytes has room for every record that is written. */
 #define OGLINDESH_MAX_RECORD 923
 
 /* No record has more operations, so a buffer of this many bytes serves every search. */
@@ -107,8 +113,8 @@ struct oglindesh_search_reply {
 struct oglindesh_search_reply oglindesh_search(const uint8_t *record, size_t length, uint8_t *buffer, size_t room, size_t saved,
                                                uint32_t allowance);
 
-/* The answer of a chain table. */
-#define OGLINDESH_DONE 0u /* the table is written */
+/* The answer of a chain table, and of a call that writes a record. */
+#define OGLINDESH_DONE 0u /* it is written */
 
 /* Writes the chain table of a record's N operations, N rows of N bytes: the byte at a * N + b becomes 1 where one or more links
  * (a 'before' that rules 1 to 8, 13 and 15 demand without an 'if') lead from operation a to operation b, else 0. Bytes behind
@@ -117,6 +123,29 @@ struct oglindesh_search_reply oglindesh_search(const uint8_t *record, size_t len
  *   256 + q   question q refuses it: 1 to 15, 26 and 27 the record, 22 the table's length
  */
 uint32_t oglindesh_chains(const uint8_t *record, size_t length, uint8_t *table, size_t room);
+
+struct oglindesh_reply {
+    uint32_t answer; /* DONE, or 256 + q */
+    size_t length;   /* of the record, which stands at the front of the buffer; 0 where the call is refused */
+};
+
+/* Writes a record out of its number of processors and three sections without counts, for those who prepare them apart.
+ *   lines         nine bytes each, as in the record
+ *   instructions  twelve bytes each: the number of its processor, from 0, then the eleven of the record. Twenty bytes where the
+ *                 record has nineteen: of kinds 5 and 6 at any size, of kinds 0 to 3 at size 16. Every other kind has twelve
+ *   pairs         two bytes each, as in the record
+ * Instructions may stand in any order: they are grouped by processor, and those of one processor keep their order. The numbers
+ * of the pairs are those that the instructions have after the grouping. Pairs are not sorted: they have to ascend (14).
+ *
+ * The questions are asked in this order: 23 of the sections, 24 of the processor numbers, those of the record that would be
+ * written, 25 of the buffer. More entries than a count can say are too many (3, 5 or 12). Bytes behind the record stay; where the
+ * call is refused, all do. The answer is one of:
+ *   DONE      the record is written, and passes
+ *   256 + q   question q refuses it: 23 or 24 the sections, 2 to 14, 26 or 27 the record, 25 the buffer's length
+ */
+struct oglindesh_reply oglindesh_write(uint8_t processors, const uint8_t *lines, size_t lines_length,
+                                       const uint8_t *instructions, size_t instructions_length, const uint8_t *pairs,
+                                       size_t pairs_length, uint8_t *buffer, size_t room);
 
 #ifdef __cplusplus
 }

@@ -5,12 +5,41 @@ use crate::proved::{Judgement, Verdict};
 use crate::reference::record::{self, Execution, MAX_OPERATIONS};
 use crate::reference::rules::{self, JudgeAnswer};
 use crate::reference::search::{self as brute, SearchAnswer, SearchReply};
+use crate::reference::writer::{self, Sections};
 use crate::reference::{self, chains, fast};
 use std::io::Write;
 use std::path::Path;
 use std::process::{Command, Stdio};
 use std::thread::sleep;
 use std::time::Duration;
+
+/// What the proved writer says of sections.
+pub fn proved_write(sections: &Sections, buffer: &mut [u8]) -> Result<usize, u8> {
+    let Sections {
+        processors,
+        lines,
+        instructions,
+        pairs,
+    } = sections;
+    proved::write(*processors, lines, instructions, pairs, buffer)
+}
+
+/// What both writers say of sections; they write to two copies of the same bytes, and leave the same.
+pub fn write(sections: &Sections, buffer: &mut [u8]) -> Result<usize, u8> {
+    let mut other = buffer.to_vec();
+    let expected = writer::write(sections, &mut other);
+    let answer = proved_write(sections, buffer);
+    assert_eq!(answer, expected, "{}", shown(sections, buffer.len()));
+    assert!(buffer == other, "{}", shown(sections, buffer.len()));
+    answer
+}
+
+/// The sections and the room of a call, for a message; of very long ones the beginning.
+fn shown(sections: &Sections, room: usize) -> String {
+    const MOST: usize = 20_000;
+    let text = format!("room {room}, {sections:?}");
+    text.chars().take(MOST).collect()
+}
 
 /// What both readers say of a record.
 pub fn check(bytes: &[u8]) -> Result<(), u8> {

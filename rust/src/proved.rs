@@ -1,17 +1,19 @@
 //! The proved library's calls, wrapped for safe Rust. The numbers that they return are those of `crates/capi`.
 //!
-//! A record is bytes, laid out as docs/FORMAT.md says; `executions::read` makes one from the papers' notation. A call that is
+//! A record is bytes, laid out as docs/FORMAT.md says. [`write`] makes one from lines, instructions and pairs that were prepared
+//! apart; `executions::read` reads the papers' notation, and `record` of what it read makes one by the same call. A call that is
 //! refused gives `Err` with the number of the first question answered 'no', and leaves lent bytes as they came. Nothing is kept
 //! between calls.
 //!
 //! | call | `Ok` says |
 //! |---|---|
+//! | [`write`] | the record is written, and how long it is |
 //! | [`check`] | the record passes questions 1 to 15, 26 and 27 |
 //! | [`judge`] | whether an order is legal, else the lowest rule that it breaks |
 //! | [`search`] | allowed, with the first legal order; forbidden; or unfinished, with the position to go on from |
 //! | [`chain_table`] | the table is written: from which operation links lead to which |
 //!
-//! K1 through all of them:
+//! K1, which the notation has written, through the others:
 //!
 //! ```
 //! use oglindesh::executions;
@@ -19,7 +21,7 @@
 //!
 //! let text = "execution K1\n  programs st x=1, ld x sees 1\n  allowed";
 //! let written = executions::read("K1", text).expect("it is well written");
-//! let record = written[0].execution.to_bytes();
+//! let record = written[0].record().expect("it passes");
 //! assert_eq!(check(&record), Ok(()));
 //!
 //! // Its operations are 0 (LV), 1 (RV) and 2 (R). The load may read its own store before the RV, but no RV stands before its LV.
@@ -56,7 +58,7 @@
 //!   programs A: sem.acq x sees 0 writes 1; B: sem.acq x sees 0 writes 1
 //!   forbidden";
 //! let written = executions::read("lock", text).expect("it is well written");
-//! let record = written[0].execution.to_bytes();
+//! let record = written[0].record().expect("it passes");
 //! let reply = search(&record, &mut [0; 128], 0, 1_000);
 //! assert_eq!((reply.answer, reply.steps), (Ok(Verdict::Forbidden), 50));
 //!
@@ -74,7 +76,7 @@
 //!   programs st8 x=1; st8 y=2; ld16 x sees 0x00000000000000020000000000000000
 //!   allowed";
 //! let written = executions::read("halves", text).expect("it is well written");
-//! let mut record = written[0].execution.to_bytes();
+//! let mut record = written[0].record().expect("it passes");
 //! let reply = search(&record, &mut [0; 128], 0, 1_000);
 //! assert_eq!(reply.answer, Ok(Verdict::Allowed));
 //!
@@ -106,9 +108,28 @@ mod exported {
             saved: usize,
             allowance: u32,
         ) -> SearchNumbers;
+        pub fn oglindesh_write(
+            processors: u8,
+            lines: *const u8,
+            lines_length: usize,
+            instructions: *const u8,
+            instructions_length: usize,
+            pairs: *const u8,
+            pairs_length: usize,
+            buffer: *mut u8,
+            room: usize,
+        ) -> Numbers;
     }
 
-    /// A reply as the library returns it.
+    /// The reply of a call that writes a record, as the library returns it.
+    #[repr(C)]
+    pub struct Numbers {
+        pub answer: u32,
+        /// Of the record; 0 at a refusal.
+        pub length: usize,
+    }
+
+    /// The reply of a search, as the library returns it.
     #[repr(C)]
     pub struct SearchNumbers {
         pub answer: u32,
@@ -127,10 +148,12 @@ pub mod numbers {
     pub const UNFINISHED: u32 = 0;
     pub const ALLOWED: u32 = 1;
     pub const FORBIDDEN: u32 = 2;
-    /// [`chain_table`](super::chain_table): the table is written.
+    /// [`chain_table`](super::chain_table): the table is written. [`write`](super::write): the record is.
     pub const DONE: u32 = 0;
     /// What a refused call returns, less the number of the question.
     pub const REFUSED: u32 = 256;
+    /// No record has more bytes, so a buffer of so many has room for all that [`write`](super::write) writes.
+    pub const MAX_RECORD: usize = 923;
 }
 
 use numbers::{ALLOWED, DONE, FORBIDDEN, LEGAL, PASSES, REFUSED, UNFINISHED};
@@ -138,6 +161,85 @@ use numbers::{ALLOWED, DONE, FORBIDDEN, LEGAL, PASSES, REFUSED, UNFINISHED};
 /// The question of a number that says 'refused'.
 fn question(number: u32) -> u8 {
     u8::try_from(number - REFUSED).expect("a refusal is 256 + the number of a question")
+}
+
+/// Writes a record to the front of `buffer`, out of the number of processors and three sections without counts, and gives its
+/// length; where a question refuses it, the number of the first that it fails.
+///
+/// Lines have nine bytes and pairs two, as in the record. An instruction has twelve: the number of its processor, then the
+/// eleven of the record. Where the record has nineteen (a semaphore, or a load or store of sixteen bytes) it has twenty.
+/// Instructions may stand in any order: they are grouped by processor, and those of one keep their order. The numbers of the
+/// pairs are those that the instructions have after the grouping. Pairs are not sorted: they have to ascend, as question 14 asks.
+///
+/// The questions are asked in this order: 23, whether each section is a whole number of entries; 24, whether each processor
+/// number is below `processors`; those of the record that would be written; 25, whether the buffer is as long as that record or
+/// longer, as one of [`MAX_RECORD`](numbers::MAX_RECORD) bytes always is. Bytes past the record stay as they are; at a refusal
+/// all do.
+///
+/// ```
+/// use oglindesh::proved::{check, numbers::MAX_RECORD, write};
+///
+/// // One WB line of zeros. The second processor's mf stands before the two of the first, which load and store its first byte.
+/// let lines = [0; 9];
+/// let instructions = [
+///     [1, 4, 0, 0, 0, 0, 0, 0, 0, 0, 0, 0],
+///     [0, 0, 0, 1, 0, 0, 0, 0, 0, 0, 0, 0],
+///     [0, 2, 0, 1, 7, 0, 0, 0, 0, 0, 0, 0],
+/// ];
+/// let instructions = instructions.as_flattened();
+/// // In the record the load is number 0, the store 1 and the mf 2. The store waits for the load.
+/// let pairs = [0, 1];
+///
+/// let mut buffer = [0; MAX_RECORD];
+/// let length = write(2, &lines, instructions, &pairs, &mut buffer).expect("it passes");
+/// let record = &buffer[..length];
+/// assert_eq!(record[..2], [2, 1]);
+/// assert_eq!(record[11..], [
+///     2,
+///     0, 0, 1, 0, 0, 0, 0, 0, 0, 0, 0,
+///     2, 0, 1, 7, 0, 0, 0, 0, 0, 0, 0,
+///     1,
+///     4, 0, 0, 0, 0, 0, 0, 0, 0, 0, 0,
+///     1,
+///     0, 1,
+/// ]);
+/// assert_eq!(check(record), Ok(()));
+///
+/// // A byte too few; a processor too few; a pair over two programs; a byte too little room.
+/// assert_eq!(write(2, &lines[1..], instructions, &pairs, &mut buffer), Err(23));
+/// assert_eq!(write(1, &lines, instructions, &pairs, &mut buffer), Err(24));
+/// assert_eq!(write(2, &lines, instructions, &[0, 2], &mut buffer), Err(13));
+/// assert_eq!(write(2, &lines, instructions, &pairs, &mut buffer[..length - 1]), Err(25));
+/// ```
+pub fn write(
+    processors: u8,
+    lines: &[u8],
+    instructions: &[u8],
+    pairs: &[u8],
+    buffer: &mut [u8],
+) -> Result<usize, u8> {
+    // SAFETY: each pointer and the length after it are those of one slice. The call only reads the sections, and the buffer is
+    // lent to it alone.
+    let numbers = unsafe {
+        exported::oglindesh_write(
+            processors,
+            lines.as_ptr(),
+            lines.len(),
+            instructions.as_ptr(),
+            instructions.len(),
+            pairs.as_ptr(),
+            pairs.len(),
+            buffer.as_mut_ptr(),
+            buffer.len(),
+        )
+    };
+    match numbers.answer {
+        DONE => Ok(numbers.length),
+        number => {
+            debug_assert_eq!(numbers.length, 0, "a refusal writes nothing");
+            Err(question(number))
+        }
+    }
 }
 
 /// Whether a record passes questions 1 to 15, 26 and 27; if not, the number of the first that it fails.

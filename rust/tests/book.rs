@@ -131,6 +131,31 @@ fn record_on_the_first_claim() {
     assert_eq!(printed(&["record", &domain, "K1"])[2], 33);
 }
 
+/// No record is written of an execution that fails a question, whether that is claimed of it or not.
+#[test]
+fn record_of_an_execution_that_fails() {
+    let forty_one = ["mf"; 41].join(", ");
+    let semaphore = "sem.acq x sees 0 writes 1";
+    for (name, text, question) in [
+        (
+            "claimed.txt",
+            format!("# 41\nexecution e\n  programs {forty_one}\n  refused 5\n"),
+            "5 (are there at most 40 instructions?)",
+        ),
+        (
+            "not_claimed.txt",
+            format!("\nexecution e\n  programs {semaphore}\n  allowed on UC\n"),
+            "26 (is the semaphore's line WB?)",
+        ),
+    ] {
+        let failing = file(name, &text);
+        assert_eq!(
+            complaint(&["record", &failing, "e"]),
+            format!("{failing}:2: the execution fails question {question}, so it has no record: write it so that it passes\n")
+        );
+    }
+}
+
 #[test]
 fn record_of_an_unknown_name() {
     let one = file("one.txt", &format!("{K1}  allowed\n"));

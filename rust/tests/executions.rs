@@ -605,9 +605,9 @@ fn the_empty_order_may_be_written() {
     }
     let text = "execution e\n  initially y=7\n  programs none; none\n  allowed on x UC, y WC";
     let executions = read("f", text).unwrap_or_else(|wrong| panic!("{wrong}"));
-    let bytes = executions[0].execution.to_bytes();
+    let record = executions[0].record();
     let lines = [[0; 9], [0, 7, 0, 0, 0, 0, 0, 0, 0]].concat();
-    assert_eq!(bytes, [&[2, 2][..], &lines, &[0, 0, 0]].concat());
+    assert_eq!(record, Ok([&[2, 2][..], &lines, &[0, 0, 0]].concat()));
     assert_eq!(said(text), "nothing");
 }
 
@@ -625,6 +625,8 @@ fn too_many_are_told() {
     let processors = ["mf"; 9].join("; ");
     let text = format!("execution e\nprograms {processors}\nrefused 2");
     assert_eq!(said(&text), "nothing");
+    let executions = read("f", &text).unwrap_or_else(|wrong| panic!("{wrong}"));
+    assert_eq!(executions[0].record(), Err(2));
 }
 
 /// Of several wrong claims the first is told, whichever thread ran it.
@@ -667,7 +669,7 @@ execution all of it   # and one here
   breaks 2  order 1 0 2 3 4 5 6
 ";
     let executions = read("f", text).unwrap_or_else(|wrong| panic!("{wrong}"));
-    let bytes = executions[0].execution.to_bytes();
+    let record = executions[0].record();
     let expected = [
         &[3, 3][..],
         &[0, 0, 0, 0, 0, 5, 6, 0, 0],
@@ -682,7 +684,7 @@ execution all of it   # and one here
         &[0, 17, 1, 9, 0, 0, 0, 0, 0, 0, 0],
         &[1, 0, 2],
     ];
-    assert_eq!(bytes, expected.concat());
+    assert_eq!(record, Ok(expected.concat()));
     let ran = run_all("f", &executions).unwrap_or_else(|wrong| panic!("{wrong}"));
     assert_eq!(ran.executions, 6 * 2 + 1 + 1);
 }
@@ -701,7 +703,7 @@ execution semaphores
   legal
 ";
     let executions = read("f", text).unwrap_or_else(|wrong| panic!("{wrong}"));
-    let bytes = executions[0].execution.to_bytes();
+    let record = executions[0].record();
     let expected = [
         &[2, 3][..],
         &[0, 2, 0, 0, 0, 0, 0, 0, 0],
@@ -718,7 +720,7 @@ execution semaphores
         &[8, 7, 6, 5, 4, 3, 2, 1],
         &[0],
     ];
-    assert_eq!(bytes, expected.concat());
+    assert_eq!(record, Ok(expected.concat()));
     assert_eq!(said(text), "nothing");
 }
 
@@ -738,7 +740,7 @@ execution sixteen bytes
   legal     order R(A) -> 1 -> 2 -> 4 -> 3 -> 5 -> 7 -> 6 -> 8 -> 10 -> 9
 ";
     let executions = read("f", text).unwrap_or_else(|wrong| panic!("{wrong}"));
-    let bytes = executions[0].execution.to_bytes();
+    let record = executions[0].record();
     let expected = [
         &[2, 8][..],
         &[0, 1, 0, 0, 0, 0, 0, 0, 0],
@@ -758,7 +760,7 @@ execution sixteen bytes
         &[0; 8],
         &[0],
     ];
-    assert_eq!(bytes, expected.concat());
+    assert_eq!(record, Ok(expected.concat()));
     assert_eq!(said(text), "nothing");
 }
 

@@ -27,7 +27,7 @@ const NUMBERS: [(&str, usize); 9] = [
     ("FORBIDDEN", numbers::FORBIDDEN as usize),
     ("DONE", numbers::DONE as usize),
     ("REFUSED", numbers::REFUSED as usize),
-    ("MAX_RECORD", MAX_RECORD),
+    ("MAX_RECORD", numbers::MAX_RECORD),
     ("MAX_OPERATIONS", MAX_OPERATIONS),
 ];
 
@@ -63,6 +63,11 @@ fn numbers_are_those_of_the_wrapper() {
 }
 
 #[test]
+fn the_longest_record_is_the_sum_of_its_parts() {
+    assert_eq!(numbers::MAX_RECORD, MAX_RECORD);
+}
+
+#[test]
 fn refusals_are_the_questions_in_turn() {
     let sum = format!("({PREFIX}REFUSED + ");
     let all = definitions().into_iter();
@@ -72,7 +77,7 @@ fn refusals_are_the_questions_in_turn() {
         number(question.unwrap_or_else(|| panic!("{PREFIX}{name} is {value}")))
     });
     let of_the_record = QUESTIONS.into_iter().map(usize::from);
-    assert!(questions.eq(of_the_record.chain(16..=22)));
+    assert!(questions.eq(of_the_record.chain(16..=25)));
 }
 
 #[test]

@@ -4,10 +4,12 @@
 //! ones, the smallest thread that comes through, in pages of 4 KB. Rust makes none below some 20 KB. To the byte it is measured
 //! in C: a thread on an array of one's own (`pthread_attr_setstack`), filled before the call and looked at after it.
 
+use oglindesh::beside::proved_write;
 use oglindesh::examples::{k1, longest};
 use oglindesh::proved::{chain_table, check, judge, search, Judgement, Verdict};
 use oglindesh::reference::notation::{acq, ld, programs, rel, st};
 use oglindesh::reference::record::{Attribute, Execution, Instruction};
+use oglindesh::reference::writer::Sections;
 use std::process::{Command, Stdio};
 
 const HEADER: &str = include_str!("../../include/oglindesh.h");
@@ -21,7 +23,7 @@ struct Call {
 }
 
 /// All calls.
-const CALLS: [Call; 4] = [
+const CALLS: [Call; 5] = [
     Call {
         name: "oglindesh_check",
         needs: 16,
@@ -45,6 +47,11 @@ const CALLS: [Call; 4] = [
             assert_eq!(chain_table(&case.record, &mut table), Ok(()));
         },
     },
+    Call {
+        name: "oglindesh_write",
+        needs: 16,
+        run: writes,
+    },
 ];
 
 /// What a thread of Rust needs beside a call, in kilobytes: its own data, which stands on its stack, its start, and the wrapper.
@@ -54,6 +61,8 @@ const THREAD: usize = 16;
 /// What the calls are made on.
 struct Case {
     record: Vec<u8>,
+    /// What the record is written out of.
+    sections: Sections,
     /// The first legal order.
     order: Vec<u8>,
     /// The record with a load that sees what nobody wrote, which a search finds out last.
@@ -70,6 +79,21 @@ fn searches(case: &Case) {
     assert!(last.answer.is_ok_and(|verdict| verdict != Verdict::Allowed));
 }
 
+/// The record out of its sections; then sections with too many entries, since what is needed does not depend on their number.
+fn writes(case: &Case) {
+    let mut buffer = vec![0; case.record.len()];
+    let answer = proved_write(&case.sections, &mut buffer);
+    assert_eq!((answer, &buffer), (Ok(case.record.len()), &case.record));
+    let mut long = case.sections.clone();
+    long.instructions = long.instructions.repeat(MANY);
+    assert_eq!(proved_write(&long, &mut buffer), Err(5));
+    long.lines = long.lines.repeat(MANY);
+    assert_eq!(proved_write(&long, &mut buffer), Err(3));
+}
+
+/// How often the entries of a section are repeated.
+const MANY: usize = 5_000;
+
 /// Steps of one call of a long search.
 const LONG: u32 = 300_000;
 
@@ -84,6 +108,7 @@ fn case(execution: &Execution) -> Case {
     assert_eq!(reply.answer, Ok(Verdict::Allowed));
     Case {
         record,
+        sections: execution.sections(),
         order,
         forbidden: forbidden.to_bytes(),
     }

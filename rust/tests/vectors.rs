@@ -5,11 +5,14 @@
 //! after the change requests that it waits for, and kept whole. A new kind of request is a row of `REQUESTS`, and for its call a
 //! field of `Calls`.
 
-use oglindesh::beside::{proved_judge, proved_operation_count, proved_search, verdict_program};
+use oglindesh::beside::{
+    proved_judge, proved_operation_count, proved_search, proved_write, verdict_program,
+};
 use oglindesh::proved;
 use oglindesh::reference::record::read;
 use oglindesh::reference::rules::{self, JudgeAnswer};
 use oglindesh::reference::search::{SearchAnswer, SearchReply};
+use oglindesh::reference::writer::{self, Sections};
 use oglindesh::reference::{self, chains, fast};
 use std::path::Path;
 
@@ -22,6 +25,7 @@ struct Calls {
     search: fn(&[u8], &mut [u8], usize, u32) -> SearchReply,
     chain_table: fn(&[u8], &mut [u8]) -> Result<(), u8>,
     verdict: fn(&[u8]) -> String,
+    write: fn(&Sections, &mut [u8]) -> Result<usize, u8>,
 }
 
 const EXPORTED: Calls = Calls {
@@ -31,6 +35,7 @@ const EXPORTED: Calls = Calls {
     search: proved_search,
     chain_table: proved::chain_table,
     verdict: |input| verdict_program(&[input]),
+    write: proved_write,
 };
 
 const REFERENCE: Calls = Calls {
@@ -40,18 +45,20 @@ const REFERENCE: Calls = Calls {
     search: fast::search,
     chain_table: chains::chain_table,
     verdict: reference::verdict::verdict,
+    write: writer::write,
 };
 
 /// The reply to a request by these calls, from what follows its name; none where that is not understood.
 type Reply = fn(&Calls, &mut Words) -> Option<String>;
 
 /// All requests.
-const REQUESTS: [(&str, Reply); 5] = [
+const REQUESTS: [(&str, Reply); 6] = [
     ("check", check),
     ("judge", judge),
     ("search", search),
     ("chains", chain_table),
     ("verdict", verdict),
+    ("write", write),
 ];
 
 fn check(calls: &Calls, words: &mut Words) -> Option<String> {
@@ -103,6 +110,22 @@ fn verdict(calls: &Calls, words: &mut Words) -> Option<String> {
     let input = words.bytes()?;
     words.end()?;
     Some((calls.verdict)(&input).replace('\n', "|"))
+}
+
+fn write(calls: &Calls, words: &mut Words) -> Option<String> {
+    let sections = Sections {
+        processors: words.number()?,
+        lines: words.bytes()?,
+        instructions: words.bytes()?,
+        pairs: words.bytes()?,
+    };
+    let mut buffer = words.bytes()?;
+    words.end()?;
+    let answer = match (calls.write)(&sections, &mut buffer) {
+        Ok(length) => format!("done {length}"),
+        Err(question) => format!("refused {question} 0"),
+    };
+    Some(format!("{answer} {}", text_of(&buffer)))
 }
 
 /// The words of a request that are not yet read, one blank apart.
@@ -217,6 +240,9 @@ fn a_line_is_understood() {
         "search FENCE - 0 4294967295\trefused 18 0 0 -",
         "chains FENCE 0a0b\tdone 000b",
         "verdict FENCE\tallowed 0|steps 1|",
+        "write 1 000000000000000000 - - 07070707070707070707070707070707\tdone 13 01010000000000000000000000070707",
+        "write 255 - - - -\trefused 2 0 -",
+        "write 0 - 000400000000000000000000 - 07\trefused 24 0 07",
     ] {
         let run = run(&line.replace("FENCE", FENCE));
         assert!(run.is_ok(), "{line}: {run:?}");
@@ -241,6 +267,10 @@ fn a_wrong_line_is_told() {
         ("search - - 0\trefused 1 0 0 -", "not understood"),
         ("search - - 0 +1\trefused 1 0 0 -", "not understood"),
         ("search - - 0 4294967296\trefused 1 0 0 -", "not understood"),
+        ("write - - - - -\trefused 2 0 -", "not understood"),
+        ("write 256 - - - -\trefused 2 0 -", "not understood"),
+        ("write 0 - - -\trefused 2 0 -", "not understood"),
+        ("write 0 - - - - -\trefused 2 0 -", "not understood"),
         ("check -\trefused 2", "exported \"refused 1\", not"),
         ("check -\trefused 1 ", "exported \"refused 1\", not"),
         ("check -\tok 0", "exported \"refused 1\", not"),
@@ -249,6 +279,10 @@ fn a_wrong_line_is_told() {
             "exported \"refused 1 0 0 00\", not",
         ),
         ("verdict -\trefused 1", "exported \"refused 1|\", not"),
+        (
+            "write 0 - - - 07\trefused 2 0 00",
+            "exported \"refused 2 0 07\", not",
+        ),
     ] {
         let said = run(line).expect_err(line);
         assert!(said.contains(what), "{line:?} gives {said}");

@@ -2,13 +2,14 @@
 
 use std::time::Instant;
 
-use oglindesh::examples::{eight_processors, named};
+use oglindesh::beside::proved_write;
+use oglindesh::examples::{eight_processors, longest, named};
 use oglindesh::proved::{self, Judgement, Verdict};
 use oglindesh::reference::notation::{ld, programs, st, X, Y, Z};
 use oglindesh::reference::record::Execution;
 use oglindesh::reference::rules::{self, JudgeAnswer};
 use oglindesh::reference::search::SearchAnswer;
-use oglindesh::reference::{chains, fast};
+use oglindesh::reference::{chains, fast, writer};
 
 /// The mean time of a call in microseconds.
 fn microseconds(rounds: u32, mut call: impl FnMut()) -> f64 {
@@ -48,6 +49,17 @@ fn chain_table_line(execution: &Execution) {
         || chains::chain_table(&bytes, &mut other).expect("the table is not refused"),
     );
     call_times(&format!("chain table, {count} operations"), &times);
+}
+
+fn write_line(execution: &Execution) {
+    let (sections, length) = (execution.sections(), execution.to_bytes().len());
+    let (mut buffer, mut other) = (vec![0; length], vec![0; length]);
+    let times = beside(
+        CALLS_A_ROUND,
+        || assert_eq!(proved_write(&sections, &mut buffer), Ok(length)),
+        || assert_eq!(writer::write(&sections, &mut other), Ok(length)),
+    );
+    call_times(&format!("write, {length} bytes"), &times);
 }
 
 /// Prints the microseconds that a whole call takes both ways.
@@ -196,6 +208,8 @@ fn main() {
     let execution = eight_processors();
     judge_line(&execution);
     chain_table_line(&execution);
+    write_line(&execution);
+    write_line(&longest());
     search_line("table 15", &named("note", "table 15"), 100_000);
     search_line("many operations", &many_operations(), 100_000);
     search_line("overlapping loads", &overlapping_loads(), 100_000);

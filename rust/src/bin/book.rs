@@ -1,6 +1,6 @@
 //! The program `book`: runs what files of executions claim, and writes their records. `COMMANDS` has all that it can do.
 
-use oglindesh::executions::{load, run_all, source, Written, Wrong, SOURCES};
+use oglindesh::executions::{self, asks, load, run_all, source, Written, Wrong, SOURCES};
 use std::io::Write;
 use std::path::Path;
 use std::process::ExitCode;
@@ -154,7 +154,8 @@ fn check_file(file: &str, read: Result<Vec<Written>, Wrong>) -> Result<(), Faile
     Ok(())
 }
 
-/// Writes the record of an execution, with the attributes of its first claim, the first where there are several.
+/// Writes the record of an execution, with the attributes of its first claim, the first where there are several. Where it fails a
+/// question, that is told instead.
 fn record(arguments: &[&str]) -> Result<(), Failed> {
     let &[file, name] = arguments else {
         return Err(Failed::Arguments);
@@ -168,7 +169,15 @@ fn record(arguments: &[&str]) -> Result<(), Failed> {
     };
     let first = written.claims.first().map(|claim| written.mixes(claim));
     let execution = first.and_then(|mixes| mixes.into_iter().next());
-    let bytes = execution.unwrap_or(written.execution.clone()).to_bytes();
+    let execution = execution.unwrap_or(written.execution.clone());
+    let bytes = executions::record(&execution).map_err(|question| Wrong {
+        file: file.to_string(),
+        line: written.line,
+        what: format!(
+            "the execution fails question {question} ({}), so it has no record: write it so that it passes",
+            asks(question)
+        ),
+    })?;
     let mut output = std::io::stdout();
     let done = output.write_all(&bytes).and_then(|()| output.flush());
     done.map_err(|error| Failed::Because(format!("the record cannot be written: {error}")))

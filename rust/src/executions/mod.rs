@@ -7,11 +7,13 @@ mod reader;
 mod run;
 mod words;
 
+use crate::beside::proved_write;
+use crate::proved::numbers::MAX_RECORD;
 use crate::reference::record::{Attribute, Execution};
 use std::fmt;
 use std::path::Path;
 
-pub use reader::read;
+pub use reader::{asks, read};
 pub use run::{run_all, Ran};
 
 /// One execution of a file, and what is claimed of it.
@@ -58,7 +60,21 @@ pub enum Says {
     Unfinished { position: Vec<u8>, allowance: u32 },
 }
 
+/// The record of an execution: the proved library writes it out of the execution's sections. Where a question refuses it, its
+/// number.
+pub fn record(execution: &Execution) -> Result<Vec<u8>, u8> {
+    let mut buffer = vec![0; MAX_RECORD];
+    let length = proved_write(&execution.sections(), &mut buffer)?;
+    buffer.truncate(length);
+    Ok(buffer)
+}
+
 impl Written {
+    /// The record with all lines WB, by [`record`].
+    pub fn record(&self) -> Result<Vec<u8>, u8> {
+        record(&self.execution)
+    }
+
     /// The execution under every mix of the attributes that a claim is made for.
     pub fn mixes(&self, claim: &Claim) -> Vec<Execution> {
         let mut mixes = vec![self.execution.clone()];

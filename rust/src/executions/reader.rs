@@ -3,7 +3,6 @@
 use super::draft::Draft;
 use super::words::{entries, Entry, Fault, Words};
 use super::{Claim, Says, Written, Wrong};
-use crate::reference::record;
 
 /// The executions of a file, in their order.
 pub fn read(file: &str, text: &str) -> Result<Vec<Written>, Wrong> {
@@ -103,8 +102,8 @@ fn read_execution(head: &Entry, body: &[Entry]) -> Result<Written, Fault> {
     Ok(written)
 }
 
-/// What each question asks, for the message about an execution that fails it.
-fn asks(question: u8) -> &'static str {
+/// What each question of a record asks, for the message about an execution that fails it.
+pub fn asks(question: u8) -> &'static str {
     match question {
         1 => "does the item end within the record?",
         2 => "are there 1 to 8 processors?",
@@ -132,7 +131,7 @@ fn accept(written: &Written) -> Result<(), Fault> {
     let Some(claim) = written.claims.iter().find(claimed) else {
         return Ok(());
     };
-    match record::read(&written.execution.to_bytes()) {
+    match written.record() {
         Ok(_) => Ok(()),
         Err(question) => {
             let what = format!(

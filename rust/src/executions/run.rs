@@ -90,9 +90,12 @@ fn wrong(file: &str, written: &Written, claim: &Claim, execution: &Execution, wh
 
 /// Runs what is claimed of one execution.
 fn run(execution: &Execution, says: &Says, random: &mut Random) -> Result<Ran, String> {
+    // Laid out by the reference, since what is refused has no record; of what passes the proved library writes the same.
     let bytes = execution.to_bytes();
     let by_reference = record::read(&bytes).map(|_| ());
     same("check", proved::check(&bytes), by_reference)?;
+    let expected = by_reference.map(|()| bytes.clone());
+    same("the record", super::record(execution), expected)?;
     if let Says::Refused(question) = says {
         return refused(&bytes, *question).map(|()| ONE);
     }

@@ -1,4 +1,5 @@
-//! The reference implementation: record, rules, judge, brute-force search, incremental search, counting, chain table and verdict.
+//! The reference implementation: record, writer, rules, judge, brute-force search, incremental search, counting, chain table and
+//! verdict.
 
 pub mod chains;
 pub mod counting;
@@ -8,3 +9,4 @@ pub mod record;
 pub mod rules;
 pub mod search;
 pub mod verdict;
+pub mod writer;

@@ -1,4 +1,4 @@
-//! The record: its types, the reader with its questions, the writer, and the operation numbers.
+//! The record: its types, the reader with its questions, and the operation numbers.
 
 use std::ops::Range;
 
@@ -222,17 +222,6 @@ impl Instruction {
         self.written[address - usize::from(self.address)]
     }
 
-    /// The data bytes of the record: what a load saw, what a store wrote, of a semaphore the one behind the other.
-    fn data(&self) -> Vec<u8> {
-        let length = Kind::value_length(self.size);
-        let (seen, written) = (&self.seen[..length], &self.written[..length]);
-        match self.kind {
-            kind if kind.is_semaphore() => [seen, written].concat(),
-            kind if kind.is_load() => seen.to_vec(),
-            _ => written.to_vec(),
-        }
-    }
-
     /// The addresses that the access covers.
     pub fn addresses(&self) -> Range<usize> {
         let first = usize::from(self.address);
@@ -386,35 +375,6 @@ impl Execution {
     /// The initial byte at an address.
     pub fn initial(&self, address: usize) -> u8 {
         self.lines[address / LINE_SIZE].initial[address % LINE_SIZE]
-    }
-
-    /// Writes the record.
-    pub fn to_bytes(&self) -> Vec<u8> {
-        let mut bytes = vec![self.processors as u8, self.lines.len() as u8];
-        for line in &self.lines {
-            bytes.push(line.attribute.byte());
-            bytes.extend(line.initial);
-        }
-        for processor in 0..self.processors {
-            let program = self.instructions.iter();
-            let program: Vec<_> = program.filter(|i| i.processor == processor).collect();
-            bytes.push(program.len() as u8);
-            for instruction in program {
-                bytes.extend([
-                    instruction.kind as u8,
-                    instruction.address,
-                    instruction.size,
-                ]);
-                bytes.extend(instruction.data());
-            }
-        }
-        bytes.push(self.pairs.len() as u8);
-        bytes.extend(
-            self.pairs
-                .iter()
-                .flat_map(|&(first, second)| [first, second]),
-        );
-        bytes
     }
 }
 
