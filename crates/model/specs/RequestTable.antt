@@ -1,5 +1,5 @@
 -- For each request of document 02 that has landed, calls and what they must answer.
-use Prim.Native.Nat.{ℕ}
+use Prim.Native.Nat.{ℕ, _*_}
 use mathlib.Core.Bool.{true}
 use mathlib.Core.List.{List, [], _∷_, _++_}
 use mathlib.Core.Option.{some}
@@ -202,12 +202,13 @@ requestTable =
     ∷ composed-no (onXY 9 ((8, mf) ∷ []) []) lent 2
     -- P1: the first failed question of the record. A count over 255 is no smaller one: 257 lines are not 1, 256 instructions not none, 256 pairs not none; it
     -- fails where the walk meets it
-    ∷ composed-no (sectionsFrom 1 (for (replicate 257 wb) (λ l. l)) [] []) lent 3
+    ∷ composed-no (sectionsFrom 1 (replicate (257 * 9) 0) [] []) lent 3
     ∷ composed-no (sectionsFrom 1 [] [] []) lent 3
-    ∷ composed-no (onXY 1 (replicate 256 (0, mf)) []) lent 5
-    ∷ composed-no (onXY 2 (replicate 256 (1, mf) ++ ((0, short 7 1) ∷ [])) []) lent 6
-    ∷ composed-no (sectionsFrom 9 (for (replicate 257 wb) (λ l. l)) [] []) lent 2
-    ∷ composed-no (onXY 1 ((0, ld x 0) ∷ []) (replicate 512 0)) lent 12
+    ∷ composed-no (sectionsFrom 1 wb (replicate (256 * 12) 0) []) lent 5
+    ∷ composed-no (onXY 1 ((0, ld x 0) ∷ []) (replicate (256 * 2) 0)) lent 12
+    ∷ composed-no (sectionsFrom 9 (replicate (257 * 9) 0) [] []) lent 2
+    ∷ composed-no (onXY 1 ((0, short 7 1) ∷ []) (replicate (256 * 2) 0)) lent 6
+    ∷ composed-no (onXY 2 (replicate 41 (1, mf) ++ ((0, short 7 1) ∷ [])) []) lent 6
     ∷ composed-no (onXY 1 ((0, ld x 0) ∷ (0, ld x 0) ∷ (0, ld x 0) ∷ []) (1 ∷ 2 ∷ 0 ∷ 1 ∷ [])) lent 14
     ∷ composed-no (sectionsFrom 1 uc (placed ((0, sem-acq x 0 1) ∷ [])) []) lent 26
     ∷ composed-no (sectionsFrom 1 (uc ++ wb) (placed ((0, st16 x 0 1) ∷ [])) []) lent 27

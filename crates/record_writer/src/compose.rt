@@ -1,7 +1,7 @@
 // The record to be written, composed in an array with room for every record: up to the first count that is too large, and no further.
 ghost use mathlib.Core.Path.{_≡_};
 ghost use mathlib.Core.Bool.{true};
-ghost use Prim.Native.Nat.{_+_, _*_, _%_, _≤_};
+ghost use Prim.Native.Nat.{_+_, _%_, _≤_};
 ghost use lib.ListN.{length, take};
 ghost use Rattle.model.specs.Sections.{sectionsFrom, question23, allWhole};
 ghost use Rattle.record_writer.specs.Cut.{cutPairs, cutPrograms, cutRecord};

@@ -1,7 +1,7 @@
 // The section of instructions, walked entry by entry from its front.
 ghost use mathlib.Core.Path.{_≡_};
 ghost use mathlib.Core.Bool.{true, cond};
-ghost use Prim.Native.Nat.{_+_, _*_, _<_, _≤_};
+ghost use Prim.Native.Nat.{_+_, _*_, _≤_};
 ghost use lib.ListN.{length, drop};
 ghost use Rattle.base.specs.Lists.{for};
 ghost use Rattle.model.specs.Sections.{sectionEntryLength, allWhole, question24, programOf};
