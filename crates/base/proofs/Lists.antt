@@ -107,6 +107,11 @@ module _ {A : Type 0} where
   all-member p (List·Memᴰ·head {x = x} {xs = l} e) h = ap p e ∙ and-parts (p x) (all p l) h .0
   all-member p (List·Memᴰ·tail {x = x} {xs = l} m) h = all-member p m (and-parts (p x) (all p l) h .1)
 
+  pub all-members : (p : A → Bool) (l : List A) → ((a : A) → List·Memᴰ a l → p a ≡ true) → all p l ≡ true
+  unfolding all
+  all-members p [] h = refl
+  all-members p (a ∷ l) h = and-both (h a (List·Memᴰ·head refl)) (all-members p l (λ b m. h b (List·Memᴰ·tail m)))
+
   pub in-keep : (p : A → Bool) {a : A} {l : List A} → List·Memᴰ a l → p a ≡ true → List·Memᴰ a (keep p l)
   unfolding keep
   in-keep p {a} (List·Memᴰ·head {x = x} {xs = xs} e) h = rw (ap p (sym e) ∙ h) (List·Memᴰ·head e)

@@ -1,11 +1,16 @@
 // The calls open to C and Rust: each answer as a number. A slice passes as a pointer, then its length.
 ghost use mathlib.Core.Path.{_≡_};
+ghost use mathlib.Core.List.{List};
+ghost use Prim.Native.Nat.{ℕ};
 ghost use Rattle.model.specs.Calls.{readAll, judgeCall, tableCall, searchCall};
 ghost use Rattle.model.specs.Sections.{sectionsFrom, writeCall};
+ghost use Rattle.model.specs.SolversCopy.{solversCopyCall};
+ghost use Rattle.record_writer.specs.Replies.{replyOf};
 ghost use Rattle.capi.specs.Numbers.{checkNumber, judgeNumber, doneNumber, Searched, Recorded};
 use judge_call::Judgement;
 use record_reader::reader::Answer;
 use record_writer::WriteAnswer;
+use record_writer::WriteReply;
 use relation_chain_table::TableAnswer;
 use search_call::call::SearchAnswer;
 
@@ -101,6 +106,21 @@ pub struct RecordReply {
     pub length: usize,
 }
 
+// The reply of a call that writes a record, as numbers.
+fn reply_of(written: WriteReply) -> RecordReply
+    ensures { λ r. ⌜ ((buffer : List ℕ) → Recorded (replyOf written buffer) r buffer) ⌝ }
+{
+    let answer = written.answer;
+    let length = written.length;
+    match answer {
+        WriteAnswer::Done => RecordReply { answer: 0, length },
+        WriteAnswer::Refused(q) => RecordReply {
+            answer: 256 + q as u32,
+            length,
+        },
+    }
+}
+
 // Writes the record of separate sections. The answer is 0, or 256 + the first question that fails; then the length is 0.
 #[no_mangle]
 pub extern "C" fn oglindesh_write(
@@ -113,13 +133,14 @@ pub extern "C" fn oglindesh_write(
     ensures { λ r. ⌜ Recorded (writeCall (sectionsFrom processors (now (lines .entry)) (now (instructions .entry)) (now (pairs .entry))) (now (buffer .entry))) r (now (buffer .exit)) ⌝ }
 {
     let written = record_writer::write(processors, lines, instructions, pairs, buffer);
-    let answer = written.answer;
-    let length = written.length;
-    match answer {
-        WriteAnswer::Done => RecordReply { answer: 0, length },
-        WriteAnswer::Refused(q) => RecordReply {
-            answer: 256 + q as u32,
-            length,
-        },
-    }
+    reply_of(written)
+}
+
+// Writes the solvers' copy of a record, with zeros in place of all that was seen. The answer is 0, or 256 + the first question that fails; then the length is 0.
+#[no_mangle]
+pub extern "C" fn oglindesh_solvers_copy(bytes: &[u8], buffer: &mut [u8]) -> RecordReply
+    ensures { λ r. ⌜ Recorded (solversCopyCall (now (bytes .entry)) (now (buffer .entry))) r (now (buffer .exit)) ⌝ }
+{
+    let written = record_solvers_copy::solvers_copy(bytes, buffer);
+    reply_of(written)
 }

@@ -145,6 +145,10 @@ tableCall bytes table = tableReply table (tabling bytes table)
 
 -- A record written into a buffer
 
+-- 25: has the buffer room for it?
+abbrev pub question25 : List ℕ → List ℕ → Bool
+question25 bytes buffer = leb (length bytes) (length buffer)
+
 pub record RecordReply : Type 0 where
   pub answer : Answer Done
   pub length : ℕ

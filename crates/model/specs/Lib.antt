@@ -10,6 +10,7 @@ pub mod Accepted
 pub mod Courses
 pub mod Verdict
 pub mod Sections
+pub mod SolversCopy
 pub mod Notation
 pub mod Claims
 pub mod Rows

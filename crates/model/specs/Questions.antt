@@ -128,7 +128,7 @@ question11 n = leb n 128
 unfoldable pub question12 : ℕ → Bool
 question12 n = leb n 40
 
-abbrev noInstruction : Instruction
+abbrev pub noInstruction : Instruction
 noInstruction = record { number = 0; first = 0; processor = 0; kind = mf; address = 0; size = 0; seen = []; wrote = [] }
 
 -- 13: is the pair's first number below its second, both in one program, neither an mf, not both stores (a semaphore is none here)?

@@ -12,7 +12,7 @@ use Rattle.model.specs.Verdict.{wordAllowed, wordSteps}
 use Rattle.model.specs.Notation.{x, y, wb, uc, uc-of, ld, st, st-rel, mf, sem-acq, sem-rel, ld16, st16, st16-rel, zeros, recordOf}
 use Rattle.model.specs.RuleTable.{one, one-pair, two}
 use Rattle.model.specs.Sections.{Sections, sectionsFrom}
-use Rattle.model.specs.Rows.{Row, lent, judged, searched, tabled, printed, followed, composed, composed-no}
+use Rattle.model.specs.Rows.{Row, lent, judged, searched, tabled, printed, followed, composed, composed-no, copied, copied-no}
 
 -- P2: two processors, and nothing in their programs
 unfoldable pub nothing : List ℕ
@@ -48,6 +48,11 @@ onXY p entries pairs = sectionsFrom p (wb ++ wb) (placed entries) pairs
 -- an entry of eleven bytes
 abbrev short : ℕ → ℕ → List ℕ
 short kind size = kind ∷ 0 ∷ size ∷ replicate 8 0
+
+-- P12: three programs, the second empty, that saw these values
+abbrev seeing : ℕ → ℕ → ℕ → ℕ → List ℕ
+seeing a b low high =
+    recordOf ((0 ∷ count 1 8) ∷ wb ∷ []) ((ld x a ∷ st x 9 ∷ []) ∷ [] ∷ (sem-acq x b 4 ∷ mf ∷ st16 x 1 2 ∷ ld16 x low high ∷ []) ∷ []) ((0, 1) ∷ [])
 
 unfoldable pub requestTable : List Row
 requestTable =
@@ -215,4 +220,10 @@ requestTable =
     -- P1, 25: a buffer shorter than the record, asked last
     ∷ composed-no (sectionsFrom 2 wb [] []) (replicate 13 5) 25
     ∷ composed-no (sectionsFrom 2 (zeros 3) [] []) [] 4
+    -- P12: zeros where a load or a semaphore saw something, in both halves of sixteen bytes; what was written stays, and all other bytes do
+    ∷ copied (seeing 5 3 6 8) (seeing 0 0 0 0)
+    ∷ copied nothing nothing
+    -- P12: the record's questions, then 25
+    ∷ copied-no nothing (replicate 13 5) 25
+    ∷ copied-no (9 ∷ []) [] 2
     ∷ []

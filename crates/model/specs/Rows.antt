@@ -9,6 +9,7 @@ use Rattle.model.specs.Calls.{Answer, says, refuses, Judgement, judgeCal
 use Rattle.model.specs.Courses.{Call, Course, start, course}
 use Rattle.model.specs.Verdict.{verdictLines}
 use Rattle.model.specs.Sections.{Sections, writeCall}
+use Rattle.model.specs.SolversCopy.{solversCopyCall}
 
 -- a buffer to lend, and the same with a position at its front
 abbrev pub lent : List ℕ
@@ -28,6 +29,8 @@ pub data Row : Type 0 where
   followed : List ℕ → List Call → Course → Row  -- record and list of search calls over the buffer; how far they come
   composed : Sections → List ℕ → Row  -- sections; the record written into a longer buffer
   composed-no : Sections → List ℕ → ℕ → Row  -- sections and buffer; the question that refuses them
+  copied : List ℕ → List ℕ → Row  -- record; its solvers' copy, in a longer buffer
+  copied-no : List ℕ → List ℕ → ℕ → Row  -- record and buffer; the question that refuses the copy
   cut : List ℕ → ℕ → Row  -- record; the question that refuses each shorter part from its start
 
 pub data Result : Type 0 where
@@ -50,6 +53,8 @@ made (printed input text) = output (verdictLines input)
 made (followed bytes calls t) = followed-to (course bytes calls (start lent))
 made (composed s bytes) = recorded (writeCall s (replicate (length bytes) 7 ++ lent))
 made (composed-no s buffer q) = recorded (writeCall s buffer)
+made (copied bytes copy) = recorded (solversCopyCall bytes (replicate (length copy) 7 ++ lent))
+made (copied-no bytes buffer q) = recorded (solversCopyCall bytes buffer)
 made (cut bytes q) = judgements (map (λ n. judgeCall (take n bytes) []) (below (length bytes)))
 
 -- what it must answer
@@ -66,6 +71,8 @@ wanted (printed input text) = output text
 wanted (followed bytes calls t) = followed-to t
 wanted (composed s bytes) = recorded (record { answer = says done; length = length bytes; buffer = bytes ++ lent })
 wanted (composed-no s buffer q) = recorded (record { answer = refuses q; length = 0; buffer = buffer })
+wanted (copied bytes copy) = recorded (record { answer = says done; length = length copy; buffer = copy ++ lent })
+wanted (copied-no bytes buffer q) = recorded (record { answer = refuses q; length = 0; buffer = buffer })
 wanted (cut bytes q) = judgements (replicate (length bytes) (refuses q))
 
 -- every row of a table holds

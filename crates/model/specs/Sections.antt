@@ -3,11 +3,11 @@ use Prim.Native.Nat.{ℕ, zero, suc, _+_, _-_, _/_, _%_}
 use mathlib.Core.Bool.{Bool, not, cond, _&&_}
 use mathlib.Core.List.{List, [], _∷_, _++_}
 use lib.ListN.{length, take, drop, replicate}
-use lib.Dec.{eqb, leb, ltb}
+use lib.Dec.{eqb, ltb}
 use Rattle.base.specs.Lists.{all, keep, for, below}
 use Rattle.model.specs.Execution.{kindOf, kindNumber, isFence, isSemaphore, attributeNumber, Line, Instruction, Execution}
 use Rattle.model.specs.Questions.{at, lineLength, entryLength, moreLength, pairLength, question6}
-use Rattle.model.specs.Calls.{Answer, says, _>>=_, _>>_, asks, readAll, RecordReply, recordReply}
+use Rattle.model.specs.Calls.{Answer, says, _>>=_, _>>_, asks, readAll, question25, RecordReply, recordReply}
 
 -- P, and the bytes of three sections without counts: lines, instructions each behind the number of its processor, pairs.
 pub record Sections : Type 0 where
@@ -67,11 +67,11 @@ recordOf s =
     ++ for (below (s .processors)) (λ p. programBytes (programOf (s .instructions) p))
     ++ (length (s .pairs) / pairLength ∷ s .pairs)
 
--- A record into a buffer: its own questions, then 25: has the buffer room for it?
+-- A record into a buffer: its own questions, then 25.
 unfoldable pub writeRecord : List ℕ → List ℕ → Answer (List ℕ)
 writeRecord bytes buffer = do
   e ← readAll bytes
-  asks 25 (leb (length bytes) (length buffer))
+  asks 25 (question25 bytes buffer)
   says bytes
 
 -- The call: questions 23 and 24, then the record's

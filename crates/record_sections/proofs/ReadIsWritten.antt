@@ -35,7 +35,7 @@ unfolding question15
 ends [] u r h = refl
 ends (b ∷ bytes) u r h = let z : _≡_ {A = ℕ} 0 1 = cc in absurd (omega arith)
 
-rendered : (bytes : List ℕ) (e : Execution) (rest : List ℕ) → readRecord bytes ≡ found e rest → Rendered bytes e
+pub rendered : (bytes : List ℕ) (e : Execution) (rest : List ℕ) → readRecord bytes ≡ found e rest → Rendered bytes e
 unfolding readRecord readInstructions
 rendered bytes e rest h =
     step (byte bytes) _ e rest h (λ p b1 e1 h1.

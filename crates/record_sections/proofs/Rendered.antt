@@ -13,9 +13,10 @@ use Rattle.base.proofs.Bools.{and-parts, or-cases}
 use Rattle.base.proofs.Lists.{member-in, all-member}
 use Rattle.model.specs.Execution.{Kind, ld, ld-acq, st, st-rel, mf, sem-acq, sem-rel, kindOf, kindNumber, isFence, isSemaphore, Attribute, Line, Instruction}
 use Rattle.model.specs.Accepted.{Each}
-use Rattle.model.specs.Questions.{found, Reader, item, byte, ask, many, moreLength, sizesOf, writtenFrom, question4, question6, question7, question9, question13, lineOf, seenOf, wroteOf, instructionOf, readLine, readLines, readInstruction, readProgram, readPrograms, readPair, readPairs}
+use Rattle.model.specs.Questions.{found, Reader, next, item, byte, ask, many, moreLength, sizesOf, writtenFrom, question4, question6, question7, question8, question9, question13, question26, question27, lineOf, seenOf, wroteOf, instructionOf, readLine, readLines, readInstruction, readProgram, readPrograms, readPair, readPairs}
 use Rattle.model.specs.Sections.{sectionEntryLength, isWhole, lineBytes, padded, dataBytes, entryBytes, sectionEntry, pairBytes}
 use Rattle.model.proofs.Accepted.{step, asked, asked-on, byte-came, item-came, data-within}
+use Rattle.model.proofs.Empty.{item-front}
 use Rattle.model.proofs.Uncacheable.{attribute-numbers}
 
 -- an item by its first byte
@@ -66,6 +67,16 @@ kind-number k h = go k (leb-true k 6 h)
     go (suc (suc (suc (suc (suc zero))))) l = refl
     go (suc (suc (suc (suc (suc (suc zero)))))) l = refl
     go (suc (suc (suc (suc (suc (suc (suc k))))))) l = absurd (omega arith)
+
+-- and a kind by its own
+pub kind-numbered : (k : Kind) → kindOf (kindNumber k) ≡ k
+kind-numbered ld = refl
+kind-numbered ld-acq = refl
+kind-numbered st = refl
+kind-numbered st-rel = refl
+kind-numbered mf = refl
+kind-numbered sem-acq = refl
+kind-numbered sem-rel = refl
 
 -- an mf has size 0
 fence-size : (k : Kind) (size : ℕ) → isFence k ≡ true → question7 k size ≡ true → size ≡ 0
@@ -192,48 +203,39 @@ module _ (processors p : ℕ) (done : List Instruction) (z : List ℕ) (six : qu
       eq-eqb (suc (length z)) (12 + cond (question6 (getD z 0 0) && not (isFence (kindOf (getD z 0 0)))) (moreLength (kindOf (getD z 0 0)) (getD z 2 0)) 0)
       (rw six (omega (arith, long, more-same (kindOf (getD z 0 0)) (getD z 2 0) seven)))
 
--- an instruction of processor p that is a whole entry in its section
+-- an instruction of processor p that is a whole entry in its section and in the record
 pub record Own (p : ℕ) (i : Instruction) : Type 0 where
   pub by : i .processor ≡ p
   pub whole : isWhole (sectionEntry i) ≡ true
+  pub long : length (entryBytes i) ≡ 11 + moreLength (i .kind) (i .size)
 
--- an entry that passed, in its two parts
-module _ (processors p : ℕ) (done : List Instruction) (x y : List ℕ) (long : length x ≡ 11) (more : length y ≡ moreLength (kindOf (getD x 0 0)) (getD x 2 0))
-    (six : question6 (getD x 0 0) ≡ true) (seven : question7 (kindOf (getD x 0 0)) (getD x 2 0) ≡ true)
-    (nine : question9 (getD x 2 0) (drop 3 (x ++ y)) ≡ true) where
+-- all bytes of an entry that passes its questions
+pub record EntryPasses (lines : List Attribute) (z : List ℕ) : Type 0 where
+  pub long : length z ≡ 11 + moreLength (kindOf (getD z 0 0)) (getD z 2 0)
+  pub six : question6 (getD z 0 0) ≡ true
+  pub seven : question7 (kindOf (getD z 0 0)) (getD z 2 0) ≡ true
+  pub eight : question8 (length lines) (kindOf (getD z 0 0)) (getD z 2 0) (getD z 1 0) ≡ true
+  pub twenty-six : question26 lines (kindOf (getD z 0 0)) (getD z 1 0) ≡ true
+  pub twenty-seven : question27 lines (getD z 2 0) (getD z 1 0) ≡ true
+  pub nine : question9 (getD z 2 0) (drop 3 z) ≡ true
+
+-- an entry in its two parts: the first three bytes are those of the first part
+module _ (x y : List ℕ) (long : length x ≡ 11) where
   byte0 : getD (x ++ y) 0 0 ≡ getD x 0 0
   byte0 = List·getD-append x y 0 0 (omega arith)
+
+  byte1 : getD (x ++ y) 1 0 ≡ getD x 1 0
+  byte1 = List·getD-append x y 0 1 (omega arith)
 
   byte2 : getD (x ++ y) 2 0 ≡ getD x 2 0
   byte2 = List·getD-append x y 0 2 (omega arith)
 
-  six-all : question6 (getD (x ++ y) 0 0) ≡ true
-  six-all = rw byte0 six
-
-  seven-all : question7 (kindOf (getD (x ++ y) 0 0)) (getD (x ++ y) 2 0) ≡ true
-  seven-all = rw (byte0, byte2) seven
-
-  nine-all : question9 (getD (x ++ y) 2 0) (drop 3 (x ++ y)) ≡ true
-  nine-all = rw byte2 nine
-
-  long-all : length (x ++ y) ≡ 11 + moreLength (kindOf (getD (x ++ y) 0 0)) (getD (x ++ y) 2 0)
-  long-all = rw (byte0, byte2) (omega (arith, length-append x y))
-
-  entry-came : entryBytes (instructionOf processors p done (x ++ y)) ≡ x ++ y
-  entry-came = entry-bytes processors p done (x ++ y) six-all long-all seven-all nine-all
-
-  entry-own : Own p (instructionOf processors p done (x ++ y))
-  unfolding instructionOf
-  entry-own = record {
-    by = refl;
-    whole = ap (λ (l : List ℕ). isWhole (p ∷ l)) entry-came ∙ entry-whole processors p done (x ++ y) six-all long-all seven-all nine-all p;
-  }
-
-module _ (processors : ℕ) (lines : List Attribute) (p : ℕ) where
-  pub instruction-bytes : (done : List Instruction) (bytes : List ℕ) (i : Instruction) (r : List ℕ) → readInstruction processors lines p done bytes ≡ found i r
-      → (bytes ≡ entryBytes i ++ r) × Own p i
+module _ (processors : ℕ) (lines : List Attribute) (p : ℕ) (done : List Instruction) where
+  -- what was read as an instruction
+  pub entry-came : (bytes : List ℕ) (i : Instruction) (r : List ℕ) → readInstruction processors lines p done bytes ≡ found i r
+      → (z : List ℕ) × EntryPasses lines z × (instructionOf processors p done z ≡ i) × (bytes ≡ z ++ r)
   unfolding readInstruction
-  instruction-bytes done bytes i r h =
+  entry-came bytes i r h =
       step (item 11 bytes) _ i r h (λ x b1 e1 h1.
       step (ask 6 _ b1) _ i r h1 (λ u2 b2 e2 h2.
       step (ask 7 _ b2) _ i r h2 (λ u3 b3 e3 h3.
@@ -246,21 +248,69 @@ module _ (processors : ℕ) (lines : List Attribute) (p : ℕ) where
       let (more-room, more-t, more-d) = item-came (moreLength (kindOf (getD x 0 0)) (getD x 2 0)) b3 y b4 e4 in
       let long : length x ≡ 11 = ap length (sym t) ∙ length-take-le 11 bytes room in
       let more : length y ≡ moreLength (kindOf (getD x 0 0)) (getD x 2 0) = ap length (sym more-t) ∙ length-take-le (moreLength (kindOf (getD x 0 0)) (getD x 2 0)) b3 more-room in
-      let six = asked 6 (question6 (getD x 0 0)) b1 u2 b2 e2 in
-      let seven = asked 7 (question7 (kindOf (getD x 0 0)) (getD x 2 0)) b2 u3 b3 e3 in
-      let nine = asked 9 (question9 (getD x 2 0) (drop 3 (x ++ y))) b7 u8 b8 e8 in
+      let first = byte0 x y long in
+      let second = byte1 x y long in
+      let third = byte2 x y long in
       let is : instructionOf processors p done (x ++ y) ≡ i = cc in
       let last : b8 ≡ r = cc in
-      let first : b1 ≡ b3 = asked-on 6 _ b1 u2 b2 e2 ∙ asked-on 7 _ b2 u3 b3 e3 in
-      let then : b4 ≡ r = asked-on 8 _ b4 u5 b5 e5 ∙ asked-on 26 _ b5 u6 b6 e6 ∙ asked-on 27 _ b6 u7 b7 e7 ∙ asked-on 9 _ b7 u8 b8 e8 ∙ last in
-      let all-bytes : bytes ≡ (x ++ y) ++ r =
-      sym (take-append-drop 11 bytes) ∙ ap₂ (λ (a b : List ℕ). a ++ b) t
-      (d ∙ first ∙ sym (take-append-drop (moreLength (kindOf (getD x 0 0)) (getD x 2 0)) b3) ∙ ap₂ (λ (a b : List ℕ). a ++ b) more-t (more-d ∙ then))
-      ∙ sym (append-assoc x y r)
-      in (
-        all-bytes ∙ ap (λ (l : List ℕ). l ++ r) (sym (entry-came processors p done x y long more six seven nine) ∙ ap entryBytes is),
-        subst (Own p) is (entry-own processors p done x y long more six seven nine),
+      let then : b1 ≡ b3 = asked-on 6 _ b1 u2 b2 e2 ∙ asked-on 7 _ b2 u3 b3 e3 in
+      let after : b4 ≡ r = asked-on 8 _ b4 u5 b5 e5 ∙ asked-on 26 _ b5 u6 b6 e6 ∙ asked-on 27 _ b6 u7 b7 e7 ∙ asked-on 9 _ b7 u8 b8 e8 ∙ last in (
+        x ++ y,
+        record {
+          long = rw (first, third) (omega (arith, length-append x y));
+          six = rw first (asked 6 (question6 (getD x 0 0)) b1 u2 b2 e2);
+          seven = rw (first, third) (asked 7 (question7 (kindOf (getD x 0 0)) (getD x 2 0)) b2 u3 b3 e3);
+          eight = rw (first, second, third) (asked 8 (question8 (length lines) (kindOf (getD x 0 0)) (getD x 2 0) (getD x 1 0)) b4 u5 b5 e5);
+          twenty-six = rw (first, second) (asked 26 (question26 lines (kindOf (getD x 0 0)) (getD x 1 0)) b5 u6 b6 e6);
+          twenty-seven = rw (second, third) (asked 27 (question27 lines (getD x 2 0) (getD x 1 0)) b6 u7 b7 e7);
+          nine = rw third (asked 9 (question9 (getD x 2 0) (drop 3 (x ++ y))) b7 u8 b8 e8);
+        },
+        is,
+        sym (take-append-drop 11 bytes) ∙ ap₂ (λ (a b : List ℕ). a ++ b) t
+            (d ∙ then ∙ sym (take-append-drop (moreLength (kindOf (getD x 0 0)) (getD x 2 0)) b3) ∙ ap₂ (λ (a b : List ℕ). a ++ b) more-t (more-d ∙ after))
+            ∙ sym (append-assoc x y r),
       )))))))))
+
+  -- an entry that passes is read, whatever follows
+  parts-found : (x y : List ℕ) → length x ≡ 11 → EntryPasses lines (x ++ y) → (r : List ℕ)
+      → readInstruction processors lines p done (x ++ (y ++ r)) ≡ found (instructionOf processors p done (x ++ y)) r
+  unfolding readInstruction next ask
+  parts-found x y long e r =
+      let first = sym (byte0 x y long) in
+      let second = sym (byte1 x y long) in
+      let third = sym (byte2 x y long) in
+      let all-long : length (x ++ y) ≡ 11 + moreLength (kindOf (getD x 0 0)) (getD x 2 0) = rw (first, third) (e .long) in
+      let more : length y ≡ moreLength (kindOf (getD x 0 0)) (getD x 2 0) = omega (arith, length-append x y) in
+      let six : question6 (getD x 0 0) ≡ true = rw first (e .six) in
+      let seven : question7 (kindOf (getD x 0 0)) (getD x 2 0) ≡ true = rw (first, third) (e .seven) in
+      let eight : question8 (length lines) (kindOf (getD x 0 0)) (getD x 2 0) (getD x 1 0) ≡ true = rw (first, second, third) (e .eight) in
+      let twenty-six : question26 lines (kindOf (getD x 0 0)) (getD x 1 0) ≡ true = rw (first, second) (e .twenty-six) in
+      let twenty-seven : question27 lines (getD x 2 0) (getD x 1 0) ≡ true = rw (second, third) (e .twenty-seven) in
+      let nine : question9 (getD x 2 0) (drop 3 (x ++ y)) ≡ true = rw third (e .nine) in
+      rw (item-front 11 x (y ++ r) long, six, seven, item-front (moreLength (kindOf (getD x 0 0)) (getD x 2 0)) y r more, eight, twenty-six, twenty-seven, nine)
+
+  pub entry-found : (z : List ℕ) → EntryPasses lines z → (r : List ℕ) → readInstruction processors lines p done (z ++ r) ≡ found (instructionOf processors p done z) r
+  entry-found z e r =
+      let whole = take-append-drop 11 z in
+      ap (readInstruction processors lines p done) (ap (λ (l : List ℕ). l ++ r) (sym whole) ∙ append-assoc (take 11 z) (drop 11 z) r)
+      ∙ parts-found (take 11 z) (drop 11 z) (length-take-le 11 z (omega (arith, e .long))) (subst (EntryPasses lines) (sym whole) e) r
+      ∙ ap (λ (l : List ℕ). found (instructionOf processors p done l) r) whole
+
+  entry-own : (z : List ℕ) → EntryPasses lines z → Own p (instructionOf processors p done z)
+  unfolding instructionOf
+  entry-own z e =
+      let same = entry-bytes processors p done z (e .six) (e .long) (e .seven) (e .nine) in
+      record {
+        by = refl;
+        whole = ap (λ (l : List ℕ). isWhole (p ∷ l)) same ∙ entry-whole processors p done z (e .six) (e .long) (e .seven) (e .nine) p;
+        long = ap length same ∙ e .long;
+      }
+
+  pub instruction-bytes : (bytes : List ℕ) (i : Instruction) (r : List ℕ) → readInstruction processors lines p done bytes ≡ found i r
+      → (bytes ≡ entryBytes i ++ r) × Own p i
+  instruction-bytes bytes i r h =
+      let (z, e, is, here) = entry-came bytes i r h in
+      (here ∙ ap (λ (l : List ℕ). l ++ r) (sym (entry-bytes processors p done z (e .six) (e .long) (e .seven) (e .nine)) ∙ ap entryBytes is), subst (Own p) is (entry-own z e))
 
 -- so many values that were read one after the other
 module _ {A : Type 0} (read : List A → Reader A) (bytesOf : A → List ℕ) (P : A → Type 0)

@@ -35,6 +35,15 @@ module _ {A : Type 0} where
       let w : r ≡ rest = cc in
       (subst P z p, w)
 
+  -- what was found is found whatever follows
+  pub settled-again : {walk : Reader A} {bytes : List ℕ} {P : A → Type 0} → Settled walk bytes P → (rest : List ℕ) (a : A) (r : List ℕ) → walk (bytes ++ rest) ≡ found a r
+      → (other : List ℕ) → walk (bytes ++ other) ≡ found a other
+  settled-again {walk} {bytes} {P} (fails q f) rest a r h other = let g = f rest in let z : _≡_ {A = ℕ} 0 1 = cc in absurd (omega arith)
+  settled-again {walk} {bytes} {P} (gives b p f) rest a r h other =
+      let g = f rest in
+      let z : b ≡ a = cc in
+      f other ∙ ap (λ (v : A). found v other) z
+
   -- more of what is found
   pub settled-with : {walk : Reader A} {bytes : List ℕ} {P : A → Type 0} (Q : A → Type 0) → ((a : A) → walk bytes ≡ found a [] → Q a) → Settled walk bytes P → Settled walk bytes Q
   settled-with {walk} {bytes} {P} Q k (fails q f) = fails q f

@@ -21,7 +21,7 @@ use Rattle.record_sections.proofs.Settled.{settled-found, lines-read, p
 
 -- A call that said something
 
-said : {A B : Type 0} (m : Answer A) (f : A → Answer B) (b : B) → andThen m f ≡ says b → (a : A) × (m ≡ says a) × (f a ≡ says b)
+pub said : {A B : Type 0} (m : Answer A) (f : A → Answer B) (b : B) → andThen m f ≡ says b → (a : A) × (m ≡ says a) × (f a ≡ says b)
 unfolding andThen
 said (says a) f b h = (a, refl, h)
 said (refuses q) f b h = let z : _≡_ {A = ℕ} 0 1 = cc in absurd (omega arith)
@@ -31,7 +31,7 @@ unfolding asks
 said-yes q true u h = refl
 said-yes q false u h = let z : _≡_ {A = ℕ} 0 1 = cc in absurd (omega arith)
 
-reply-done : (buffer : List ℕ) (a : Answer (List ℕ)) → recordReply buffer a .answer ≡ says done → (bytes : List ℕ) × (a ≡ says bytes)
+pub reply-done : (buffer : List ℕ) (a : Answer (List ℕ)) → recordReply buffer a .answer ≡ says done → (bytes : List ℕ) × (a ≡ says bytes)
 unfolding recordReply
 reply-done buffer (says bytes) h = (bytes, refl)
 reply-done buffer (refuses q) h = let z : _≡_ {A = ℕ} 0 1 = cc in absurd (omega arith)

@@ -30,7 +30,8 @@ pub struct WriteReply {
     pub length: usize,
 }
 
-fn refused(q: u8) -> WriteReply
+// A call that question q refuses.
+pub fn refused(q: u8) -> WriteReply
     ensures { λ r. ⌜ ((buffer : List ℕ) → replyOf r buffer ≡ recordReply buffer (refuses q)) ⌝ }
 {
     WriteReply {

@@ -1,0 +1,1 @@
+// The claims of the solvers' copy: no code, their proofs alone.

@@ -1,0 +1,4 @@
+-- The laws of this crate.
+pub mod ClearLaws
+pub mod SeenLaws
+pub mod CopyLaws
