@@ -1,6 +1,6 @@
-/* K1 (one processor: st x=1, ld x sees 1) through every call that takes a record; then a record with no instruction, one of UC
- * memory with its domains, a lock that two processors take, a load of sixteen bytes, and a record that is written out of lines
- * and instructions prepared apart. k1.txt is what it prints. */
+/* K1 (one processor: st x=1, ld x sees 1) through check, judge, search and chain table; then a record with no instruction, one of
+ * UC memory with its domains, a lock that two processors take, a load of sixteen bytes, a record that is written out of lines
+ * and instructions prepared apart, and a copy without what was seen. k1.txt is what it prints. */
 #include "oglindesh.h"
 #include <stdio.h>
 
@@ -73,6 +73,24 @@ static const uint8_t instructions[] = {
     0, 2, 0, 1, 2, 0, 0, 0, 0, 0, 0, 0, /* processor 0: st, address 0, size 1, writes 2 */
 };
 
+/* A lock is handed over with its data: st y=5, st.rel x=1; sem.acq x sees 1 writes 2, ld y sees 5. At first y is 3, so that in no
+ * order it is seen as 0. */
+enum { SEMAPHORE = 2 + 2 * 9 + 1 + 2 * 11 + 1, SEEN = SEMAPHORE + 3, WRITTEN = SEEN + 8, LOADED = WRITTEN + 8 + 3 };
+static const uint8_t handed_over[] = {
+    2,                                /* two processors */
+    2,                                /* two lines: */
+    0, 0, 0, 0, 0, 0, 0, 0, 0,        /* WB, eight initial bytes */
+    0, 3, 0, 0, 0, 0, 0, 0, 0,        /* WB, y is 3 */
+    2,                                /* two instructions of the first: */
+    2, 8, 1, 5, 0, 0, 0, 0, 0, 0, 0,  /* st, address 8, size 1, writes 5 */
+    3, 0, 1, 1, 0, 0, 0, 0, 0, 0, 0,  /* st.rel, address 0, size 1, writes 1 */
+    2,                                /* two of the second: */
+    5, 0, 1, 1, 0, 0, 0, 0, 0, 0, 0,  /* sem.acq, address 0, size 1, sees 1 */
+    2, 0, 0, 0, 0, 0, 0, 0,           /* and writes 2 */
+    0, 8, 1, 5, 0, 0, 0, 0, 0, 0, 0,  /* ld, address 8, size 1, sees 5 */
+    0,                                /* no pair */
+};
+
 static void say_judgement(const uint8_t *record, size_t length, const uint8_t *order, size_t entries)
 {
     uint32_t number = oglindesh_judge(record, length, order, entries);
@@ -136,6 +154,33 @@ static void write_and_search(uint8_t processors, const uint8_t *pairs, size_t pa
     search_in_parts(record, reply.length, 1000);
 }
 
+/* What its semaphore and its load see, and what the semaphore writes. */
+static void say_values(const char *what, const uint8_t *record)
+{
+    printf("%s: the semaphore sees %u and writes %u, the load sees %u\n", what, (unsigned)record[SEEN],
+           (unsigned)record[WRITTEN], (unsigned)record[LOADED]);
+}
+
+/* Copies so many bytes of that record to a buffer of so many, prints what the copy has, and searches both. */
+static void copy_for_solvers(size_t length, size_t room)
+{
+    uint8_t copy[OGLINDESH_MAX_RECORD];
+    struct oglindesh_reply reply = oglindesh_solvers_copy(handed_over, length, copy, room);
+    size_t others = 0;
+
+    if (reply.answer != OGLINDESH_DONE) {
+        printf("question %u refuses the copy\n", (unsigned)(reply.answer - OGLINDESH_REFUSED));
+        return;
+    }
+    for (size_t i = 0; i < reply.length; i++)
+        others += copy[i] != handed_over[i];
+    printf("%zu bytes are copied, %zu of them are others\n", reply.length, others);
+    say_values("the record", handed_over);
+    say_values("the copy", copy);
+    search_in_parts(handed_over, length, 2000);
+    search_in_parts(copy, reply.length, 2000);
+}
+
 int main(void)
 {
     static const uint8_t local[] = {0, 2, 1}, remote_first[] = {1, 0, 2}, turned[] = {1, 0};
@@ -168,5 +213,8 @@ int main(void)
     write_and_search(2, loads, 1, OGLINDESH_MAX_RECORD);            /* half a pair */
     write_and_search(1, loads, sizeof loads, OGLINDESH_MAX_RECORD); /* without processor 1 */
     write_and_search(2, loads, sizeof loads, 59);                   /* a byte too little room */
+    copy_for_solvers(sizeof handed_over, OGLINDESH_MAX_RECORD);
+    copy_for_solvers(sizeof handed_over, sizeof handed_over - 1); /* a byte too little room */
+    copy_for_solvers(sizeof handed_over - 1, 0);                  /* without its last byte, which is asked before the room */
     return 0;
 }

@@ -11,7 +11,8 @@
  *   first question answered 'no'. Then no lent byte has changed.
  * - Nothing is kept between calls, so calls on different arrays may be made at the same time.
  * - Nothing is taken from the heap. What a call needs of the stack does not depend on what it is given; measured and rounded up:
- *   oglindesh_check 16 KB, oglindesh_judge 20 KB, oglindesh_search 64 KB, oglindesh_chains 48 KB, oglindesh_write 16 KB.
+ *   oglindesh_check 16 KB, oglindesh_judge 20 KB, oglindesh_search 64 KB, oglindesh_chains 48 KB, oglindesh_write 16 KB,
+ *   oglindesh_solvers_copy 16 KB.
  */
 #ifndef OGLINDESH_H
 #define OGLINDESH_H
@@ -26,8 +27,8 @@ extern "C" {
 /* The version of what is declared here. MAJOR goes up where a caller has to change: a call, an answer's number, a question or the
  * layout of a record is another. MINOR goes up where something is added; while MAJOR is 0, for both. */
 #define OGLINDESH_VERSION_MAJOR 0
-#define OGLINDESH_VERSION_MINOR 6
-#define OGLINDESH_VERSION "0.6"
+#define OGLINDESH_VERSION_MINOR 7
+#define OGLINDESH_VERSION "0.7"
 
 /* What a refused call returns, less the number of the question. */
 #define OGLINDESH_REFUSED 256u
@@ -60,13 +61,13 @@ extern "C" {
 #define OGLINDESH_REFUSED_SAVED_INCONSISTENT (OGLINDESH_REFUSED + 21u) /* is the saved position consistent? */
 /* Of a chain table: */
 #define OGLINDESH_REFUSED_SHORT_TABLE (OGLINDESH_REFUSED + 22u) /* has it N * N bytes or more? */
-/* Of the sections that a record is written out of, and of the buffer that it is written to: */
+/* Of the sections that a record is written out of, and of the buffer that it, or a record's copy, is written to: */
 #define OGLINDESH_REFUSED_PARTIAL_ENTRY (OGLINDESH_REFUSED + 23u)   /* is each section a whole number of entries? */
 #define OGLINDESH_REFUSED_WRONG_PROCESSOR (OGLINDESH_REFUSED + 24u) /* is each below the number of processors? */
 #define OGLINDESH_REFUSED_SHORT_OUTPUT (OGLINDESH_REFUSED + 25u)    /* has the buffer the record's length or more? */
 
 /* No record is longer: 8 lines, 40 instructions of 19 bytes (such as loads of 16) on 8 processors, 40 pairs, and the counts. A
- * buffer of this many bytes has room for every record that is written. */
+ * buffer of this many bytes has room for every record that is written, and for every copy. */
 #define OGLINDESH_MAX_RECORD 923
 
 /* No record has more operations, so a buffer of this many bytes serves every search. */
@@ -113,7 +114,7 @@ struct oglindesh_search_reply {
 struct oglindesh_search_reply oglindesh_search(const uint8_t *record, size_t length, uint8_t *buffer, size_t room, size_t saved,
                                                uint32_t allowance);
 
-/* The answer of a chain table, and of a call that writes a record. */
+/* The answer of a chain table, and of a call that writes a record or its copy. */
 #define OGLINDESH_DONE 0u /* it is written */
 
 /* Writes the chain table of a record's N operations, N rows of N bytes: the byte at a * N + b becomes 1 where one or more links
@@ -126,7 +127,7 @@ uint32_t oglindesh_chains(const uint8_t *record, size_t length, uint8_t *table, 
 
 struct oglindesh_reply {
     uint32_t answer; /* DONE, or 256 + q */
-    size_t length;   /* of the record, which stands at the front of the buffer; 0 where the call is refused */
+    size_t length;   /* of the record or the copy, which stands at the front of the buffer; 0 where the call is refused */
 };
 
 /* Writes a record out of its number of processors and three sections without counts, for those who prepare them apart.
@@ -146,6 +147,19 @@ struct oglindesh_reply {
 struct oglindesh_reply oglindesh_write(uint8_t processors, const uint8_t *lines, size_t lines_length,
                                        const uint8_t *instructions, size_t instructions_length, const uint8_t *pairs,
                                        size_t pairs_length, uint8_t *buffer, size_t room);
+
+/* Writes the solvers' copy of a record: the record without what was seen.
+ *   kinds 0, 1   all data bytes are zero, of size 16 those of both halves
+ *   kinds 5, 6   the first eight data bytes, what the semaphore saw, are zero; the other eight, what it wrote, stay
+ * All other bytes are those of the record, what stores wrote among them, and the copy is as long. So records that differ only in
+ * what was seen have the same copy. It passes questions 1 to 15, 26 and 27, but need not be an allowed execution.
+ *
+ * The questions of the record are asked first, then 25 of the buffer, which is another array than the record's. Bytes behind the
+ * copy stay; where the call is refused, all do. The answer is one of:
+ *   DONE      the copy is written; its length is the record's
+ *   256 + q   question q refuses it: 1 to 15, 26 or 27 the record, 25 the buffer's length
+ */
+struct oglindesh_reply oglindesh_solvers_copy(const uint8_t *record, size_t length, uint8_t *buffer, size_t room);
 
 #ifdef __cplusplus
 }

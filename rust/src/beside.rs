@@ -5,6 +5,7 @@ use crate::proved::{Judgement, Verdict};
 use crate::reference::record::{self, Execution, MAX_OPERATIONS};
 use crate::reference::rules::{self, JudgeAnswer};
 use crate::reference::search::{self as brute, SearchAnswer, SearchReply};
+use crate::reference::solvers;
 use crate::reference::writer::{self, Sections};
 use crate::reference::{self, chains, fast};
 use std::io::Write;
@@ -39,6 +40,17 @@ fn shown(sections: &Sections, room: usize) -> String {
     const MOST: usize = 20_000;
     let text = format!("room {room}, {sections:?}");
     text.chars().take(MOST).collect()
+}
+
+/// What both say of a solvers' copy; they write it to two copies of the same bytes, and leave the same.
+pub fn solvers_copy(record: &[u8], buffer: &mut [u8]) -> Result<usize, u8> {
+    let mut other = buffer.to_vec();
+    let expected = solvers::solvers_copy(record, &mut other);
+    let answer = proved::solvers_copy(record, buffer);
+    let room = buffer.len();
+    assert_eq!(answer, expected, "record {record:?}, room {room}");
+    assert_eq!(buffer, other, "record {record:?}, room {room}");
+    answer
 }
 
 /// What both readers say of a record.

@@ -8,6 +8,7 @@
 //! | call | `Ok` says |
 //! |---|---|
 //! | [`write`] | the record is written, and how long it is |
+//! | [`solvers_copy`] | the copy of a record without what was seen is written, and how long it is |
 //! | [`check`] | the record passes questions 1 to 15, 26 and 27 |
 //! | [`judge`] | whether an order is legal, else the lowest rule that it breaks |
 //! | [`search`] | allowed, with the first legal order; forbidden; or unfinished, with the position to go on from |
@@ -119,6 +120,12 @@ mod exported {
             buffer: *mut u8,
             room: usize,
         ) -> Numbers;
+        pub fn oglindesh_solvers_copy(
+            bytes: *const u8,
+            length: usize,
+            buffer: *mut u8,
+            room: usize,
+        ) -> Numbers;
     }
 
     /// The reply of a call that writes a record, as the library returns it.
@@ -149,10 +156,12 @@ pub mod numbers {
     pub const ALLOWED: u32 = 1;
     pub const FORBIDDEN: u32 = 2;
     /// [`chain_table`](super::chain_table): the table is written. [`write`](super::write): the record is.
+    /// [`solvers_copy`](super::solvers_copy): the copy is.
     pub const DONE: u32 = 0;
     /// What a refused call returns, less the number of the question.
     pub const REFUSED: u32 = 256;
-    /// No record has more bytes, so a buffer of so many has room for all that [`write`](super::write) writes.
+    /// No record has more bytes, so a buffer of so many has room for all that [`write`](super::write) and
+    /// [`solvers_copy`](super::solvers_copy) write.
     pub const MAX_RECORD: usize = 923;
 }
 
@@ -233,6 +242,60 @@ pub fn write(
             buffer.len(),
         )
     };
+    written(numbers)
+}
+
+/// Writes the solvers' copy of a record to the front of `buffer` and gives its length, which is the record's; where a question
+/// refuses it, the number of the first that it fails.
+///
+/// In the copy the data bytes of every load are zero, all sixteen of one of that size, and of every semaphore those that it saw.
+/// All other bytes are the record's, what stores and semaphores wrote among them. So records that differ only in what was seen
+/// have the same copy. It passes [`check`], but need not be an allowed execution.
+///
+/// The questions of the record are asked first, then 25, whether the buffer is as long as the record or longer, as one of
+/// [`MAX_RECORD`](numbers::MAX_RECORD) bytes always is. Bytes past the copy stay as they are; at a refusal all do.
+///
+/// ```
+/// use oglindesh::executions;
+/// use oglindesh::proved::{check, solvers_copy};
+///
+/// let record = |text: &str| {
+///     let text = format!("execution e\n  programs {text}\n  operations 6");
+///     let written = executions::read("e", &text).expect("it is well written");
+///     written[0].record().expect("it passes")
+/// };
+/// let seen = record("st x=7, sem.acq x sees 7 writes 2, ld2 x sees 2");
+///
+/// // Behind the copy the buffer has room for two bytes more.
+/// let mut buffer = vec![170; seen.len() + 2];
+/// assert_eq!(solvers_copy(&seen, &mut buffer), Ok(seen.len()));
+/// let (copy, rest) = buffer.split_at(seen.len());
+/// assert_eq!(copy, record("st x=7, sem.acq x sees 0 writes 2, ld2 x sees 0"));
+/// assert_eq!(rest, [170; 2]);
+/// assert_eq!(check(copy), Ok(()));
+///
+/// // A byte too little room; the same of a record without its last byte, of which question 1 is asked before.
+/// let mut short = vec![170; seen.len() - 1];
+/// assert_eq!(solvers_copy(&seen, &mut short), Err(25));
+/// assert_eq!(solvers_copy(&seen[..seen.len() - 1], &mut short[1..]), Err(1));
+/// assert_eq!(short, vec![170; seen.len() - 1]);
+/// ```
+pub fn solvers_copy(record: &[u8], buffer: &mut [u8]) -> Result<usize, u8> {
+    // SAFETY: each pointer and the length after it are those of one slice. The call only reads the record, and the buffer is
+    // lent to it alone.
+    let numbers = unsafe {
+        exported::oglindesh_solvers_copy(
+            record.as_ptr(),
+            record.len(),
+            buffer.as_mut_ptr(),
+            buffer.len(),
+        )
+    };
+    written(numbers)
+}
+
+/// The length of what a call has written to its buffer, or the question that refuses it.
+fn written(numbers: exported::Numbers) -> Result<usize, u8> {
     match numbers.answer {
         DONE => Ok(numbers.length),
         number => {

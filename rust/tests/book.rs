@@ -1,6 +1,7 @@
 //! The program `book` as it is built: what it prints, where, and whether it says that it failed.
 
 use oglindesh::examples::{k1, k1_uncacheable, named};
+use oglindesh::proved::solvers_copy;
 use std::io::{BufRead, BufReader};
 use std::path::PathBuf;
 use std::process::{Command, Output, Stdio};
@@ -166,6 +167,51 @@ fn record_of_an_unknown_name() {
     );
 }
 
+/// Claims, source and order are left out, and nothing is seen. What is printed is a file too, and its record the solvers' copy.
+#[test]
+fn solvers_of_a_file() {
+    let answered = "execution turn
+  source    how it ends
+  programs  A: sem.acq x sees 1 writes 2, ld2 y sees 0x0301; st.rel x=1
+  allowed   steps 9
+  order     R(A)
+execution elsewhere  # where no semaphore lies
+  programs  sem.acq x sees 0 writes 1
+  refused 26 on UC
+execution K1
+  programs  st x=1, ld x sees 1
+  allowed   on UC or WB\n";
+    let answered = file("answered.txt", answered);
+    let solvers = printed(&["solvers", &answered]);
+    let expected = "execution turn
+  programs    A: sem.acq x sees 0 writes 2, ld2 y sees 0; st.rel x=1
+  operations  8
+
+# elsewhere: question 26 refuses it (is the semaphore's line WB?), so it has no copy
+
+execution K1
+  programs    st x=1, ld x sees 0
+  operations  3 on UC\n";
+    assert_eq!(text(&solvers), expected);
+
+    let copies = file("copies.txt", expected);
+    let all = "2 executions, 2 claims, 2 records, 0 steps: all as claimed\n";
+    let checked = printed(&["check", &copies]);
+    assert_eq!(text(&checked), format!("{copies}: {all}"));
+    let k1 = k1_uncacheable().to_bytes();
+    let mut copy = vec![170; k1.len()];
+    assert_eq!(solvers_copy(&k1, &mut copy), Ok(copy.len()));
+    assert_eq!(printed(&["record", &copies, "K1"]), copy);
+}
+
+#[test]
+fn solvers_of_a_wrong_line() {
+    let wrong = file("wrong_for_solvers.txt", &format!("{K1}  alowed\n"));
+    let says = complaint(&["solvers", &wrong]);
+    let begins = format!("{wrong}:3: `alowed` does not begin a line: write execution, ");
+    assert!(says.starts_with(&begins), "{says}");
+}
+
 /// The rows of a help, each cut into its columns.
 fn rows(help: &str) -> Vec<Vec<&str>> {
     let rows = help.lines().filter_map(|line| line.strip_prefix("  "));
@@ -183,6 +229,7 @@ fn help_has_a_row_for_each_command() {
     for form in [
         "book check [FILE ...]",
         "book record FILE NAME",
+        "book solvers FILE",
         "book help",
     ] {
         assert!(forms.contains(&form), "{forms:?}");
@@ -218,6 +265,8 @@ fn wrong_arguments() {
         ),
         (&["record", "a", "b", "c"], "write: book record FILE NAME, "),
         (&["check", "--all"], "write: book check [FILE ...], "),
+        (&["solvers"], "write: book solvers FILE, "),
+        (&["solvers", "a", "b"], "write: book solvers FILE, "),
         (&["help", "check"], "write: book help, "),
     ] {
         let complaint = complaint(arguments);
@@ -231,6 +280,7 @@ fn a_missing_file() {
     for arguments in [
         &["check", "missing.txt"][..],
         &["record", "missing.txt", "K1"],
+        &["solvers", "missing.txt"],
     ] {
         let complaint = complaint(arguments);
         let says = "missing.txt: the file cannot be read: ";

@@ -1,5 +1,6 @@
 //! The questions 1 to 22 but 10, which is not asked, by hand: boundary values, and which of two comes first. Those of a semaphore
-//! are in tests/semaphores.rs, those of sixteen bytes in tests/sixteen.rs, those of the writer in tests/writer.rs.
+//! are in tests/semaphores.rs, those of sixteen bytes in tests/sixteen.rs, those of the writer in tests/writer.rs, those of the
+//! solvers' copy in tests/solvers.rs.
 
 use oglindesh::beside;
 use oglindesh::generate::ATTRIBUTES;

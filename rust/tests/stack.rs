@@ -6,7 +6,7 @@
 
 use oglindesh::beside::proved_write;
 use oglindesh::examples::{k1, longest};
-use oglindesh::proved::{chain_table, check, judge, search, Judgement, Verdict};
+use oglindesh::proved::{chain_table, check, judge, search, solvers_copy, Judgement, Verdict};
 use oglindesh::reference::notation::{acq, ld, programs, rel, st};
 use oglindesh::reference::record::{Attribute, Execution, Instruction};
 use oglindesh::reference::writer::Sections;
@@ -23,7 +23,7 @@ struct Call {
 }
 
 /// All calls.
-const CALLS: [Call; 5] = [
+const CALLS: [Call; 6] = [
     Call {
         name: "oglindesh_check",
         needs: 16,
@@ -51,6 +51,15 @@ const CALLS: [Call; 5] = [
         name: "oglindesh_write",
         needs: 16,
         run: writes,
+    },
+    Call {
+        name: "oglindesh_solvers_copy",
+        needs: 16,
+        run: |case| {
+            let length = case.record.len();
+            let answer = solvers_copy(&case.record, &mut vec![0; length]);
+            assert_eq!(answer, Ok(length));
+        },
     },
 ];
 

@@ -13,7 +13,7 @@ use oglindesh::reference::record::read;
 use oglindesh::reference::rules::{self, JudgeAnswer};
 use oglindesh::reference::search::{SearchAnswer, SearchReply};
 use oglindesh::reference::writer::{self, Sections};
-use oglindesh::reference::{self, chains, fast};
+use oglindesh::reference::{self, chains, fast, solvers};
 use std::path::Path;
 
 /// What replies are made of.
@@ -26,6 +26,7 @@ struct Calls {
     chain_table: fn(&[u8], &mut [u8]) -> Result<(), u8>,
     verdict: fn(&[u8]) -> String,
     write: fn(&Sections, &mut [u8]) -> Result<usize, u8>,
+    solvers_copy: fn(&[u8], &mut [u8]) -> Result<usize, u8>,
 }
 
 const EXPORTED: Calls = Calls {
@@ -36,6 +37,7 @@ const EXPORTED: Calls = Calls {
     chain_table: proved::chain_table,
     verdict: |input| verdict_program(&[input]),
     write: proved_write,
+    solvers_copy: proved::solvers_copy,
 };
 
 const REFERENCE: Calls = Calls {
@@ -46,19 +48,21 @@ const REFERENCE: Calls = Calls {
     chain_table: chains::chain_table,
     verdict: reference::verdict::verdict,
     write: writer::write,
+    solvers_copy: solvers::solvers_copy,
 };
 
 /// The reply to a request by these calls, from what follows its name; none where that is not understood.
 type Reply = fn(&Calls, &mut Words) -> Option<String>;
 
 /// All requests.
-const REQUESTS: [(&str, Reply); 6] = [
+const REQUESTS: [(&str, Reply); 7] = [
     ("check", check),
     ("judge", judge),
     ("search", search),
     ("chains", chain_table),
     ("verdict", verdict),
     ("write", write),
+    ("copy", solvers_copy),
 ];
 
 fn check(calls: &Calls, words: &mut Words) -> Option<String> {
@@ -121,11 +125,24 @@ fn write(calls: &Calls, words: &mut Words) -> Option<String> {
     };
     let mut buffer = words.bytes()?;
     words.end()?;
-    let answer = match (calls.write)(&sections, &mut buffer) {
+    let answer = (calls.write)(&sections, &mut buffer);
+    Some(written(answer, &buffer))
+}
+
+fn solvers_copy(calls: &Calls, words: &mut Words) -> Option<String> {
+    let (record, mut buffer) = (words.bytes()?, words.bytes()?);
+    words.end()?;
+    let answer = (calls.solvers_copy)(&record, &mut buffer);
+    Some(written(answer, &buffer))
+}
+
+/// The reply of a call that writes a record, and the buffer that it left.
+fn written(answer: Result<usize, u8>, buffer: &[u8]) -> String {
+    let answer = match answer {
         Ok(length) => format!("done {length}"),
         Err(question) => format!("refused {question} 0"),
     };
-    Some(format!("{answer} {}", text_of(&buffer)))
+    format!("{answer} {}", text_of(buffer))
 }
 
 /// The words of a request that are not yet read, one blank apart.
@@ -243,6 +260,9 @@ fn a_line_is_understood() {
         "write 1 000000000000000000 - - 07070707070707070707070707070707\tdone 13 01010000000000000000000000070707",
         "write 255 - - - -\trefused 2 0 -",
         "write 0 - 000400000000000000000000 - 07\trefused 24 0 07",
+        "copy FENCE FENCE07\tdone 24 FENCE07",
+        "copy FENCE 07\trefused 25 0 07",
+        "copy - -\trefused 1 0 -",
     ] {
         let run = run(&line.replace("FENCE", FENCE));
         assert!(run.is_ok(), "{line}: {run:?}");
@@ -271,6 +291,8 @@ fn a_wrong_line_is_told() {
         ("write 256 - - - -\trefused 2 0 -", "not understood"),
         ("write 0 - - -\trefused 2 0 -", "not understood"),
         ("write 0 - - - - -\trefused 2 0 -", "not understood"),
+        ("copy -\trefused 1 0 -", "not understood"),
+        ("copy - - -\trefused 1 0 -", "not understood"),
         ("check -\trefused 2", "exported \"refused 1\", not"),
         ("check -\trefused 1 ", "exported \"refused 1\", not"),
         ("check -\tok 0", "exported \"refused 1\", not"),
@@ -282,6 +304,10 @@ fn a_wrong_line_is_told() {
         (
             "write 0 - - - 07\trefused 2 0 00",
             "exported \"refused 2 0 07\", not",
+        ),
+        (
+            "copy - 07\trefused 1 0 00",
+            "exported \"refused 1 0 07\", not",
         ),
     ] {
         let said = run(line).expect_err(line);

@@ -9,7 +9,7 @@ use oglindesh::reference::notation::{ld, programs, st, X, Y, Z};
 use oglindesh::reference::record::Execution;
 use oglindesh::reference::rules::{self, JudgeAnswer};
 use oglindesh::reference::search::SearchAnswer;
-use oglindesh::reference::{chains, fast, writer};
+use oglindesh::reference::{chains, fast, solvers, writer};
 
 /// The mean time of a call in microseconds.
 fn microseconds(rounds: u32, mut call: impl FnMut()) -> f64 {
@@ -60,6 +60,18 @@ fn write_line(execution: &Execution) {
         || assert_eq!(writer::write(&sections, &mut other), Ok(length)),
     );
     call_times(&format!("write, {length} bytes"), &times);
+}
+
+fn solvers_copy_line(execution: &Execution) {
+    let bytes = execution.to_bytes();
+    let length = bytes.len();
+    let (mut buffer, mut other) = (vec![0; length], vec![0; length]);
+    let times = beside(
+        CALLS_A_ROUND,
+        || assert_eq!(proved::solvers_copy(&bytes, &mut buffer), Ok(length)),
+        || assert_eq!(solvers::solvers_copy(&bytes, &mut other), Ok(length)),
+    );
+    call_times(&format!("solvers' copy, {length} bytes"), &times);
 }
 
 /// Prints the microseconds that a whole call takes both ways.
@@ -210,6 +222,7 @@ fn main() {
     chain_table_line(&execution);
     write_line(&execution);
     write_line(&longest());
+    solvers_copy_line(&longest());
     search_line("table 15", &named("note", "table 15"), 100_000);
     search_line("many operations", &many_operations(), 100_000);
     search_line("overlapping loads", &overlapping_loads(), 100_000);

@@ -1,6 +1,9 @@
-//! The program `book`: runs what files of executions claim, and writes their records. `COMMANDS` has all that it can do.
+//! The program `book`: runs what files of executions claim, writes their records, and prints them for solvers. `COMMANDS` has all
+//! that it can do.
 
-use oglindesh::executions::{self, asks, load, run_all, source, Written, Wrong, SOURCES};
+use oglindesh::executions::{
+    self, asks, load, run_all, solvers_text, source, Written, Wrong, SOURCES,
+};
 use std::io::Write;
 use std::path::Path;
 use std::process::ExitCode;
@@ -16,7 +19,7 @@ struct Command {
 }
 
 /// All commands, in the order in which the help has them.
-const COMMANDS: [Command; 3] = [
+const COMMANDS: [Command; 4] = [
     Command {
         name: "check",
         takes: "[FILE ...]",
@@ -30,6 +33,13 @@ const COMMANDS: [Command; 3] = [
         does: "writes the bytes of an execution's record to standard output",
         example: "book record mine.txt K1 > k1.record",
         run: record,
+    },
+    Command {
+        name: "solvers",
+        takes: "FILE",
+        does: "prints the executions with nothing seen, and none of their claims",
+        example: "book solvers mine.txt",
+        run: solvers,
     },
     Command {
         name: "help",
@@ -167,9 +177,8 @@ fn record(arguments: &[&str]) -> Result<(), Failed> {
         let what = format!("{file} has no execution `{name}`: write one of: {names}");
         return Err(Failed::Because(what));
     };
-    let first = written.claims.first().map(|claim| written.mixes(claim));
-    let execution = first.and_then(|mixes| mixes.into_iter().next());
-    let execution = execution.unwrap_or(written.execution.clone());
+    let first = written.claims.first();
+    let execution = first.map_or(written.execution.clone(), |claim| written.first_mix(claim));
     let bytes = executions::record(&execution).map_err(|question| Wrong {
         file: file.to_string(),
         line: written.line,
@@ -178,7 +187,21 @@ fn record(arguments: &[&str]) -> Result<(), Failed> {
             asks(question)
         ),
     })?;
+    write("the record", &bytes)
+}
+
+/// Prints the executions of a file for solvers.
+fn solvers(arguments: &[&str]) -> Result<(), Failed> {
+    let &[file] = arguments else {
+        return Err(Failed::Arguments);
+    };
+    let executions = load(Path::new(file))?;
+    write("the text", solvers_text(&executions).as_bytes())
+}
+
+/// Writes to standard output.
+fn write(what: &str, bytes: &[u8]) -> Result<(), Failed> {
     let mut output = std::io::stdout();
-    let done = output.write_all(&bytes).and_then(|()| output.flush());
-    done.map_err(|error| Failed::Because(format!("the record cannot be written: {error}")))
+    let done = output.write_all(bytes).and_then(|()| output.flush());
+    done.map_err(|error| Failed::Because(format!("{what} cannot be written: {error}")))
 }

@@ -152,7 +152,7 @@ impl Draft {
     fn read_attributes(&self, words: &mut Words) -> Result<Vec<Vec<Attribute>>, Fault> {
         let count = self.line_count();
         let next = words.peek().unwrap_or("");
-        if next == "any" || attribute_of(next).is_some() {
+        if begins_alternatives(next) {
             return Ok(vec![read_alternatives(words)?; count]);
         }
         if self.find_address(next).is_none() {
@@ -218,6 +218,11 @@ fn read_question(words: &mut Words) -> Result<u8, Fault> {
             ))
         }
     }
+}
+
+/// Whether a word begins the attributes of one line, or of all.
+pub(super) fn begins_alternatives(word: &str) -> bool {
+    word == "any" || attribute_of(word).is_some()
 }
 
 /// `any`, or `WB or WC`.

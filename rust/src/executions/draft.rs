@@ -1,6 +1,7 @@
 //! An execution while it is read: places, initial bytes, programs and pairs.
 
 use super::words::{is_number, number_of, Fault, Words};
+use super::Names;
 use crate::reference::notation;
 use crate::reference::record::{
     Attribute, Execution, Instruction, Kind, Line, LINE_SIZE, MAX_SIZE,
@@ -11,13 +12,11 @@ const MOST_COUNTED: usize = 255;
 
 /// An execution being read.
 pub(super) struct Draft {
-    places: Vec<(String, u8)>,
+    pub(super) names: Names,
     /// Address and byte.
     initial: Vec<(u8, u8)>,
     processors: usize,
     instructions: Vec<Instruction>,
-    /// By instruction.
-    labels: Vec<Option<String>>,
     pub(super) has_programs: bool,
     pairs: Vec<(u8, u8)>,
     /// The paper's order, for the claims after it.
@@ -26,18 +25,11 @@ pub(super) struct Draft {
 
 impl Draft {
     pub(super) fn new() -> Draft {
-        let places = [
-            ("x", notation::X),
-            ("y", notation::Y),
-            ("z", notation::Z),
-            ("w", notation::W),
-        ];
         Draft {
-            places: places.map(|(name, at)| (name.to_string(), at)).to_vec(),
+            names: Names::default(),
             initial: Vec::new(),
             processors: 0,
             instructions: Vec::new(),
-            labels: Vec::new(),
             has_programs: false,
             pairs: Vec::new(),
             order: None,
@@ -56,8 +48,8 @@ impl Draft {
             }
             words.expect("at")?;
             let address = words.number_to(255, "an address")? as u8;
-            self.places.retain(|(other, _)| *other != name);
-            self.places.push((name, address));
+            self.names.places.retain(|(other, _)| *other != name);
+            self.names.places.push((name, address));
             if !words.skip(",") {
                 return Ok(());
             }
@@ -105,12 +97,21 @@ impl Draft {
 
     /// Where a place is, or the number itself.
     pub(super) fn find_address(&self, word: &str) -> Option<u128> {
-        let place = self.places.iter().find(|(name, _)| name == word);
+        let place = self.names.places.iter().find(|(name, _)| name == word);
         place.map_or_else(|| number_of(word), |&(_, at)| Some(at.into()))
     }
 
+    fn is_place(&self, word: &str) -> bool {
+        self.names.places.iter().any(|(name, _)| name == word)
+    }
+
     pub(super) fn place_names(&self) -> String {
-        let names: Vec<&str> = self.places.iter().map(|(name, _)| name.as_str()).collect();
+        let names: Vec<&str> = self
+            .names
+            .places
+            .iter()
+            .map(|(name, _)| name.as_str())
+            .collect();
         names.join(", ")
     }
 
@@ -148,7 +149,13 @@ impl Draft {
         let mut word = words.take(WANTED)?;
         let mut label = None;
         if words.skip(":") {
-            if self.labels.iter().flatten().any(|other| other == word) {
+            if self
+                .names
+                .labels
+                .iter()
+                .flatten()
+                .any(|other| other == word)
+            {
                 return words.fault(format!(
                     "there is an instruction `{word}` above: write another name"
                 ));
@@ -159,13 +166,16 @@ impl Draft {
             label = Some(word.to_string());
             word = words.take(WANTED)?;
         }
-        self.labels.push(label);
+        self.names.labels.push(label);
         let Some((kind, size)) = kind_and_size(word) else {
             return words.fault(format!("`{word}` is not an instruction: write {WANTED}"));
         };
         if kind == Kind::Fence {
+            self.names.bases.push(None);
             return Ok(self.placed(notation::mf()));
         }
+        let base = words.peek().filter(|word| self.is_place(word));
+        self.names.bases.push(base.map(str::to_string));
         let address = self.read_address(words)?;
         words.expect(if kind.is_load() { "sees" } else { "=" })?;
         let value = self.read_value(words, size)?;
@@ -231,7 +241,7 @@ impl Draft {
     pub(super) fn read_instruction_name(&self, words: &mut Words) -> Result<usize, Fault> {
         let word = words.take("the name or the number of an instruction")?;
         let labelled = |label: &Option<String>| label.as_deref() == Some(word);
-        let found = self.labels.iter().position(labelled);
+        let found = self.names.labels.iter().position(labelled);
         let number = number_of(word).and_then(|number| number.try_into().ok());
         let count = self.instructions.len();
         match found.or(number).filter(|&at| at < count) {
@@ -286,26 +296,29 @@ fn counted(words: &Words, count: usize) -> Result<(), Fault> {
     ))
 }
 
+/// How an mf is written.
+pub(super) const FENCE: &str = "mf";
+
+/// How the others are written: what stands before the size, and what behind it.
+pub(super) const ACCESSES: [(Kind, &str, &str); 6] = [
+    (Kind::Load, "ld", ""),
+    (Kind::LoadAcquire, "ld", ".acq"),
+    (Kind::Store, "st", ""),
+    (Kind::StoreRelease, "st", ".rel"),
+    (Kind::SemaphoreAcquire, "sem", ".acq"),
+    (Kind::SemaphoreRelease, "sem", ".rel"),
+];
+
 /// `ld`, `ld2.acq`, `st16` and so on; size 1 where none is written. A kind has the sizes that question 7 passes.
 fn kind_and_size(word: &str) -> Option<(Kind, usize)> {
-    if word == "mf" {
+    if word == FENCE {
         return Some((Kind::Fence, 0));
     }
-    let (access, order) = match word.split_once('.') {
-        Some((access, order)) => (access, Some(order)),
-        None => (word, None),
-    };
+    let (access, order) = word.split_at(word.find('.').unwrap_or(word.len()));
     let name = access.trim_end_matches(|c: char| c.is_ascii_digit());
     let size = &access[name.len()..];
-    let kind = match (name, order) {
-        ("ld", None) => Kind::Load,
-        ("ld", Some("acq")) => Kind::LoadAcquire,
-        ("st", None) => Kind::Store,
-        ("st", Some("rel")) => Kind::StoreRelease,
-        ("sem", Some("acq")) => Kind::SemaphoreAcquire,
-        ("sem", Some("rel")) => Kind::SemaphoreRelease,
-        _ => return None,
-    };
+    let mut rows = ACCESSES.into_iter();
+    let (kind, ..) = rows.find(|row| (row.1, row.2) == (name, order))?;
     let written = if size.is_empty() { "1" } else { size };
     let mut sizes = kind.sizes().iter();
     let size = sizes.find(|size| size.to_string() == written)?;

@@ -1,18 +1,22 @@
-//! Executions written as the papers write them, in text files: what a file holds, how it is read, how its claims are run.
+//! Executions written as the papers write them, in text files: what a file holds, how it is read, how its claims are run, how it
+//! is printed for solvers.
 //! docs/EXECUTIONS.md says how to write one.
 
 mod claims;
 mod draft;
+mod print;
 mod reader;
 mod run;
 mod words;
 
 use crate::beside::proved_write;
 use crate::proved::numbers::MAX_RECORD;
+use crate::reference::notation;
 use crate::reference::record::{Attribute, Execution};
 use std::fmt;
 use std::path::Path;
 
+pub use print::solvers_text;
 pub use reader::{asks, read};
 pub use run::{run_all, Ran};
 
@@ -24,7 +28,36 @@ pub struct Written {
     pub line: usize,
     /// With all lines WB.
     pub execution: Execution,
+    pub names: Names,
     pub claims: Vec<Claim>,
+}
+
+/// The names that an execution is written with.
+#[derive(Clone, PartialEq, Eq, Debug)]
+pub struct Names {
+    /// Places and their addresses.
+    pub places: Vec<(String, u8)>,
+    /// By instruction: its own.
+    pub labels: Vec<Option<String>>,
+    /// By instruction: the place that its address is written from; none where that is a number.
+    pub bases: Vec<Option<String>>,
+}
+
+impl Default for Names {
+    /// The places that there are without a line `places`.
+    fn default() -> Names {
+        let places = [
+            ("x", notation::X),
+            ("y", notation::Y),
+            ("z", notation::Z),
+            ("w", notation::W),
+        ];
+        Names {
+            places: places.map(|(name, at)| (name.to_string(), at)).to_vec(),
+            labels: Vec::new(),
+            bases: Vec::new(),
+        }
+    }
 }
 
 /// One claim, and the attributes that it is made for.
@@ -73,6 +106,15 @@ impl Written {
     /// The record with all lines WB, by [`record`].
     pub fn record(&self) -> Result<Vec<u8>, u8> {
         record(&self.execution)
+    }
+
+    /// The execution under the first mix of the attributes that a claim is made for.
+    pub fn first_mix(&self, claim: &Claim) -> Execution {
+        let mut first = self.execution.clone();
+        for (line, attributes) in first.lines.iter_mut().zip(&claim.on) {
+            line.attribute = attributes[0];
+        }
+        first
     }
 
     /// The execution under every mix of the attributes that a claim is made for.

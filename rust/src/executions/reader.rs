@@ -96,6 +96,7 @@ fn read_execution(head: &Entry, body: &[Entry]) -> Result<Written, Fault> {
         name: head.text.clone(),
         line: head.line,
         execution: draft.execution(),
+        names: draft.names,
         claims,
     };
     accept(&written)?;

@@ -8,7 +8,7 @@ use crate::reference::counting::{self, Counted};
 use crate::reference::record::{self, Execution};
 use crate::reference::rules::{self, JudgeAnswer};
 use crate::reference::search::{self, SearchAnswer, SearchReply};
-use crate::reference::{chains, fast};
+use crate::reference::{chains, fast, solvers};
 use std::sync::atomic::{AtomicUsize, Ordering};
 use std::sync::Mutex;
 
@@ -102,6 +102,7 @@ fn run(execution: &Execution, says: &Says, random: &mut Random) -> Result<Ran, S
     // The reader passed it on WB; where a semaphore lies elsewhere it is refused, and where an access lies on two lines that differ.
     claimed("check", by_reference, Ok(()))?;
     chain_tables(execution, &bytes)?;
+    copies(&bytes)?;
     match says {
         Says::Refused(_) => Ok(ONE),
         Says::Operations(count) => operations(&bytes, *count).map(|()| ONE),
@@ -287,7 +288,9 @@ fn refused(bytes: &[u8], question: u8) -> Result<(), String> {
     };
     claimed("search", proved_search(bytes, &mut [], 0, 1), expected)?;
     let table = proved::chain_table(bytes, &mut []);
-    claimed("chain table", table, Err(question))
+    claimed("chain table", table, Err(question))?;
+    let copy = proved::solvers_copy(bytes, &mut []);
+    claimed("solvers' copy", copy, Err(question))
 }
 
 /// The proved library takes a chain table of N x N bytes, and none that is a byte shorter (for N = 0 there is none).
@@ -314,6 +317,16 @@ fn chain_tables(execution: &Execution, bytes: &[u8]) -> Result<(), String> {
         None => Ok(()),
         Some(at) => same(&byte_of_table(at, count), table[at], other[at]),
     }
+}
+
+/// The solvers' copy, with room for more.
+fn copies(bytes: &[u8]) -> Result<(), String> {
+    let fresh = vec![UNTOUCHED; bytes.len() + 3];
+    let (mut buffer, mut other) = (fresh.clone(), fresh);
+    let answer = proved::solvers_copy(bytes, &mut buffer);
+    let expected = solvers::solvers_copy(bytes, &mut other);
+    same("the solvers' copy", answer, expected)?;
+    same("the bytes of the solvers' copy", &buffer, &other)
 }
 
 /// A byte of a lent table: one of the N x N marks, or past them.

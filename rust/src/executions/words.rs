@@ -23,7 +23,7 @@ pub(super) struct Entry {
 const SIGNS: [&str; 8] = ["->", ",", ";", ":", "=", "(", ")", "+"];
 
 /// A line that ends with one of these goes on in the next.
-const OPEN_ENDS: [&str; 4] = ["->", ",", ";", ":"];
+pub(super) const OPEN_ENDS: [&str; 4] = ["->", ",", ";", ":"];
 
 /// The entries of a file; comments and empty lines are left out.
 pub(super) fn entries(text: &str) -> Vec<Entry> {

@@ -1,5 +1,5 @@
-//! The reference implementation: record, writer, rules, judge, brute-force search, incremental search, counting, chain table and
-//! verdict.
+//! The reference implementation: record, writer, solvers' copy, rules, judge, brute-force search, incremental search, counting,
+//! chain table and verdict.
 
 pub mod chains;
 pub mod counting;
@@ -8,5 +8,6 @@ pub mod notation;
 pub mod record;
 pub mod rules;
 pub mod search;
+pub mod solvers;
 pub mod verdict;
 pub mod writer;
