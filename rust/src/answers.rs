@@ -1,4 +1,5 @@
-//! What all calls answer of one record, the proved ones beside the independent ones, so that two records can be compared.
+//! What all calls answer of one record, the proved ones beside the independent ones, so that two records can be compared; counts of
+//! answers.
 
 use crate::beside::{chain_table, check, judge, search};
 use crate::generate::{linked_order, order};
@@ -35,6 +36,24 @@ impl Answers {
     pub fn found(&self) -> Option<&[u8]> {
         let (reply, buffer) = self.search.last()?;
         (reply.answer == SearchAnswer::Allowed).then_some(buffer)
+    }
+}
+
+/// How often each question refused a call; place 0 counts the calls that were not refused.
+#[derive(Default, Debug)]
+pub struct Refusals(pub [usize; 28]);
+
+impl Refusals {
+    /// One call's answer more.
+    pub fn count<T>(&mut self, answer: &Result<T, u8>) {
+        let refused = answer.as_ref().err().copied().unwrap_or(0);
+        self.0[usize::from(refused)] += 1;
+    }
+
+    /// The questions that refused a call.
+    pub fn reached(&self) -> Vec<u8> {
+        let refused = |&question: &u8| self.0[usize::from(question)] > 0;
+        (1..28).filter(refused).collect()
     }
 }
 

@@ -1,6 +1,7 @@
 //! The proved chain table beside the independent one: the same answer and the same bytes, on records whole and damaged, in
 //! tables of any length.
 
+use oglindesh::answers::Refusals;
 use oglindesh::beside::chain_table;
 use oglindesh::examples::{eight_processors, k1, named};
 use oglindesh::executions::{source, SOURCES};
@@ -10,26 +11,17 @@ use oglindesh::reference::notation::{ld, mf, programs, st, X};
 use oglindesh::reference::record::{read, Execution, QUESTIONS};
 use oglindesh::reference::rules::links;
 
-/// How many tables each question refused; place 0 counts those that were written.
-struct Tally([usize; 28]);
-
-impl Tally {
-    fn new() -> Tally {
-        Tally([0; 28])
-    }
-
-    /// Asks both for a table over random bytes of this length, and counts their answer. Past the marks, and all over at a
-    /// refusal, the table is held to what it was.
-    fn ask(&mut self, random: &mut Random, bytes: &[u8], length: usize) -> Vec<u8> {
-        let before = random.bytes(length);
-        let mut table = before.clone();
-        let answer = chain_table(bytes, &mut table);
-        self.0[usize::from(answer.err().unwrap_or(0))] += 1;
-        let written = answer.map_or(0, |()| size(bytes));
-        assert!(table[..written].iter().all(|&mark| mark <= 1));
-        assert_eq!(table[written..], before[written..], "record {bytes:?}");
-        table
-    }
+/// Asks both for a table over random bytes of this length, and counts their answer. Past the marks, and all over at a refusal, the
+/// table is held to what it was.
+fn ask(tally: &mut Refusals, random: &mut Random, bytes: &[u8], length: usize) -> Vec<u8> {
+    let before = random.bytes(length);
+    let mut table = before.clone();
+    let answer = chain_table(bytes, &mut table);
+    tally.count(&answer);
+    let written = answer.map_or(0, |()| size(bytes));
+    assert!(table[..written].iter().all(|&mark| mark <= 1));
+    assert_eq!(table[written..], before[written..], "record {bytes:?}");
+    table
 }
 
 /// How many bytes the table of a record takes; none if it has no table.
@@ -40,22 +32,22 @@ fn size(bytes: &[u8]) -> usize {
 #[test]
 fn tables_agree_on_generated_records() {
     let mut random = Random::new(21);
-    let mut tally = Tally::new();
+    let mut tally = Refusals::default();
     let (rounds, mut chains, mut empty) = (3000, 0, 0);
     for round in 0..rounds {
         let execution = execution(&mut random, &Shape::ALL[round % 3]);
         let bytes = execution.to_bytes();
         let size = size(&bytes);
         let longer = size + random.between(1, 300);
-        let table = tally.ask(&mut random, &bytes, size);
+        let table = ask(&mut tally, &mut random, &bytes, size);
         chains += usize::from(has_more_than_links(&execution, &table));
-        tally.ask(&mut random, &bytes, longer);
+        ask(&mut tally, &mut random, &bytes, longer);
         if size == 0 {
             empty += 1;
             continue;
         }
         for length in [size - 1, 0] {
-            tally.ask(&mut random, &bytes, length);
+            ask(&mut tally, &mut random, &bytes, length);
         }
     }
     // The exact and the longer tables are written, those that are shorter are not; with no operation there is none.
@@ -80,13 +72,13 @@ fn has_more_than_links(execution: &Execution, table: &[u8]) -> bool {
 #[test]
 fn tables_agree_on_damaged_records() {
     let mut random = Random::new(22);
-    let mut tally = Tally::new();
+    let mut tally = Refusals::default();
     for round in 0..6000 {
         let execution = execution(&mut random, &Shape::ALL[round % 3]);
         let bytes = damaged(&mut random, &execution);
         let size = size(&bytes);
         for length in [size, size.saturating_sub(1), size + random.below(20)] {
-            tally.ask(&mut random, &bytes, length);
+            ask(&mut tally, &mut random, &bytes, length);
         }
     }
     assert!(tally.0[0] > 0, "no table was written");
@@ -100,11 +92,11 @@ fn tables_agree_on_damaged_records() {
 fn tables_agree_on_records_that_fail_a_question() {
     let mut random = Random::new(23);
     for question in QUESTIONS {
-        let mut tally = Tally::new();
+        let mut tally = Refusals::default();
         for _ in 0..100 {
             let bytes = failing(&mut random, question);
             for length in [0, random.below(300), 128 * 128] {
-                tally.ask(&mut random, &bytes, length);
+                ask(&mut tally, &mut random, &bytes, length);
             }
         }
         assert_eq!(tally.0[usize::from(question)], 300, "question {question}");
@@ -114,9 +106,9 @@ fn tables_agree_on_records_that_fail_a_question() {
 #[test]
 fn every_length_about_a_small_table() {
     let mut random = Random::new(24);
-    let mut tally = Tally::new();
+    let mut tally = Refusals::default();
     for length in 0..20 {
-        tally.ask(&mut random, &k1().to_bytes(), length);
+        ask(&mut tally, &mut random, &k1().to_bytes(), length);
     }
     assert_eq!((tally.0[22], tally.0[0]), (9, 11));
 }
@@ -124,7 +116,7 @@ fn every_length_about_a_small_table() {
 #[test]
 fn the_papers_own_examples() {
     let mut random = Random::new(25);
-    let mut tally = Tally::new();
+    let mut tally = Refusals::default();
     let sources = SOURCES.map(|file| source(file).expect("it is read"));
     let executions = sources.iter().flatten().map(|written| &written.execution);
     let accepted: Vec<_> = executions
@@ -133,13 +125,13 @@ fn the_papers_own_examples() {
     for execution in &accepted {
         let bytes = execution.to_bytes();
         let size = size(&bytes);
-        let table = tally.ask(&mut random, &bytes, size + 5);
+        let table = ask(&mut tally, &mut random, &bytes, size + 5);
         let count = execution.operation_count();
         for (a, b) in links(execution) {
             assert_eq!(table[a * count + b], 1, "record {bytes:?}, {a} to {b}");
         }
         if let Some(shorter) = size.checked_sub(1) {
-            tally.ask(&mut random, &bytes, shorter);
+            ask(&mut tally, &mut random, &bytes, shorter);
         }
     }
     let with_marks = accepted.iter().filter(|e| e.operation_count() > 0);
@@ -172,19 +164,19 @@ fn as_many_as_126_operations() {
         .map(|at| u8::from(mark(at / 126, at % 126)))
         .collect();
     let mut random = Random::new(26);
-    let mut tally = Tally::new();
+    let mut tally = Refusals::default();
     let bytes = eight_processors().to_bytes();
     let size = size(&bytes);
     assert_eq!(size, expected.len());
     for length in [size, size + 1, 128 * 128] {
-        let table = tally.ask(&mut random, &bytes, length);
+        let table = ask(&mut tally, &mut random, &bytes, length);
         assert_eq!(table[..size], expected);
     }
     for length in [size - 1, 126, 0] {
-        tally.ask(&mut random, &bytes, length);
+        ask(&mut tally, &mut random, &bytes, length);
     }
     assert_eq!((tally.0[0], tally.0[22]), (3, 3));
     let one_more = named("scope", "eight processors and a store more");
-    tally.ask(&mut random, &one_more.to_bytes(), 128 * 128);
+    ask(&mut tally, &mut random, &one_more.to_bytes(), 128 * 128);
     assert_eq!(tally.0[11], 1);
 }

@@ -1,44 +1,30 @@
 //! The proved reader beside the independent one: they answer alike on every record, whole, damaged, cut, lengthened and random.
 
+use oglindesh::answers::Refusals;
 use oglindesh::beside::check;
 use oglindesh::generate::{damaged, execution, failing, Shape};
 use oglindesh::random::Random;
 use oglindesh::reference::record::QUESTIONS;
 
-/// How many records each question refused; place 0 counts those that were accepted.
-struct Tally([usize; 28]);
-
-impl Tally {
-    fn new() -> Tally {
-        Tally([0; 28])
-    }
-
-    /// Asks both readers, and counts their answer. No record is refused with a number that is not asked.
-    fn ask(&mut self, bytes: &[u8]) {
-        let question = check(bytes).err().unwrap_or(0);
-        let asked = question == 0 || QUESTIONS.contains(&question);
-        assert!(asked, "question {question} refuses the record {bytes:?}");
-        self.0[usize::from(question)] += 1;
-    }
-
-    /// The questions that refused a record.
-    fn reached(&self) -> Vec<u8> {
-        let refused = |&question: &u8| self.0[usize::from(question)] > 0;
-        (1..=27).filter(refused).collect()
-    }
+/// Asks both readers, and counts their answer. No record is refused with a number that is not asked.
+fn ask(tally: &mut Refusals, bytes: &[u8]) {
+    let answer = check(bytes);
+    let asked = answer.map_or_else(|question| QUESTIONS.contains(&question), |()| true);
+    assert!(asked, "{answer:?} of the record {bytes:?}");
+    tally.count(&answer);
 }
 
 #[test]
 fn readers_agree_on_generated_records() {
     let mut random = Random::new(1);
-    let mut tally = Tally::new();
+    let mut tally = Refusals::default();
     for round in 0..20_000 {
         let shape = Shape::ALL[round % 3];
         let execution = execution(&mut random, &shape);
-        tally.ask(&execution.to_bytes());
-        tally.ask(&damaged(&mut random, &execution));
+        ask(&mut tally, &execution.to_bytes());
+        ask(&mut tally, &damaged(&mut random, &execution));
         let question = QUESTIONS[round % QUESTIONS.len()];
-        tally.ask(&failing(&mut random, question));
+        ask(&mut tally, &failing(&mut random, question));
     }
     assert!(tally.0[0] > 0, "no record was accepted");
     assert_eq!(tally.reached(), QUESTIONS);
@@ -47,14 +33,14 @@ fn readers_agree_on_generated_records() {
 #[test]
 fn readers_agree_on_every_cut_and_one_byte_more() {
     let mut random = Random::new(2);
-    let mut tally = Tally::new();
+    let mut tally = Refusals::default();
     for _ in 0..50 {
         let mut bytes = execution(&mut random, &Shape::SMALL).to_bytes();
         for length in 0..=bytes.len() {
-            tally.ask(&bytes[..length]);
+            ask(&mut tally, &bytes[..length]);
         }
         bytes.push(random.byte());
-        tally.ask(&bytes);
+        ask(&mut tally, &bytes);
     }
     assert!(tally.0[0] > 0);
     assert_eq!(tally.reached(), [1, 15]);
@@ -68,14 +54,14 @@ const VALUES: [u8; 22] = [
 #[test]
 fn readers_agree_on_every_byte_changed() {
     let mut random = Random::new(3);
-    let mut tally = Tally::new();
+    let mut tally = Refusals::default();
     for _ in 0..20 {
         let bytes = execution(&mut random, &Shape::SMALL).to_bytes();
         for at in 0..bytes.len() {
             for value in VALUES {
                 let mut changed = bytes.clone();
                 changed[at] = value;
-                tally.ask(&changed);
+                ask(&mut tally, &changed);
             }
         }
     }
@@ -86,7 +72,7 @@ fn readers_agree_on_every_byte_changed() {
 #[test]
 fn readers_agree_on_random_bytes() {
     let mut random = Random::new(4);
-    let mut tally = Tally::new();
+    let mut tally = Refusals::default();
     for _ in 0..20_000 {
         let length = random.below(80);
         let small = random.once_in(2);
@@ -99,7 +85,7 @@ fn readers_agree_on_random_bytes() {
                 }
             })
             .collect();
-        tally.ask(&bytes);
+        ask(&mut tally, &bytes);
     }
     let reached = tally.reached();
     assert!(reached.contains(&1) && reached.contains(&2), "{reached:?}");

@@ -1,6 +1,7 @@
 //! The proved solvers' copy beside the independent one (document 02, P12): what is zero in it and what stays, records that differ
 //! only in what was seen, every refusal and their order, and the bytes of the buffer.
 
+use oglindesh::answers::Refusals;
 use oglindesh::beside::{check, solvers_copy};
 use oglindesh::examples::{longest, named};
 use oglindesh::generate::{damaged, execution, failing, Shape};
@@ -91,21 +92,6 @@ fn generated(random: &mut Random) -> Execution {
         give_any_values(random, &mut e);
     }
     e
-}
-
-/// How often each refusal was given; place 0 counts the copies.
-struct Tally([usize; 28]);
-
-impl Tally {
-    fn count<T>(&mut self, answer: &Result<T, u8>) {
-        let refused = answer.as_ref().err().copied().unwrap_or(0);
-        self.0[usize::from(refused)] += 1;
-    }
-
-    fn reached(&self) -> Vec<u8> {
-        let refused = |&question: &u8| self.0[usize::from(question)] > 0;
-        (1..28).filter(refused).collect()
-    }
 }
 
 // What is zero, and what stays.
@@ -412,7 +398,7 @@ fn cut_and_lengthened_records() {
 #[test]
 fn damaged_records() {
     let mut random = Random::new(9);
-    let mut tally = Tally([0; 28]);
+    let mut tally = Refusals::default();
     for round in 0..40_000 {
         let e = execution(&mut random, &Shape::ALL[round % 3]);
         let record = damaged(&mut random, &e);

@@ -1,6 +1,7 @@
 //! The proved writer beside the independent one (document 02, P1): sections of accepted records and back, damaged and very long
 //! sections, every refusal and their order, and the bytes of the buffer.
 
+use oglindesh::answers::Refusals;
 use oglindesh::beside::{check, write};
 use oglindesh::generate::{self, execution, Shape, ATTRIBUTES};
 use oglindesh::proved::numbers::MAX_RECORD;
@@ -135,21 +136,6 @@ fn asked(random: &mut Random, sections: &Sections, room: usize) -> Result<Vec<u8
 fn refusal(entries: &Entries) -> u8 {
     let answer = asked(&mut Random::new(0), &entries.sections(), MAX_RECORD);
     answer.err().unwrap_or(0)
-}
-
-/// How often each refusal was given; place 0 counts what was written.
-struct Tally([usize; 28]);
-
-impl Tally {
-    fn count<T>(&mut self, answer: &Result<T, u8>) {
-        let refused = answer.as_ref().err().copied().unwrap_or(0);
-        self.0[usize::from(refused)] += 1;
-    }
-
-    fn reached(&self) -> Vec<u8> {
-        let refused = |&question: &u8| self.0[usize::from(question)] > 0;
-        (1..28).filter(refused).collect()
-    }
 }
 
 /// Three processors, two lines; loads, stores, an mf, a semaphore and sixteen bytes, in no order; written out byte by byte.
@@ -363,7 +349,7 @@ fn fail_whole(random: &mut Random, mut sections: Sections) -> Sections {
 #[test]
 fn every_refusal() {
     let mut random = Random::new(104);
-    let mut tally = Tally([0; 28]);
+    let mut tally = Refusals::default();
     for round in 0..400 * REFUSALS.len() {
         let question = REFUSALS[round % REFUSALS.len()];
         let sections = failing(&mut random, question);
@@ -425,7 +411,7 @@ fn damage(random: &mut Random, sections: &mut Sections) {
 #[test]
 fn damaged_sections() {
     let mut random = Random::new(105);
-    let mut tally = Tally([0; 28]);
+    let mut tally = Refusals::default();
     for round in 0..60_000 {
         let e = execution(&mut random, &Shape::ALL[round % 3]);
         let turns = cut(&e.to_bytes()).interleaved(&mut random);
@@ -447,7 +433,7 @@ fn every_byte_changed() {
         0, 1, 2, 3, 4, 5, 6, 7, 8, 9, 15, 16, 17, 33, 40, 49, 128, 255,
     ];
     let mut random = Random::new(106);
-    let mut tally = Tally([0; 28]);
+    let mut tally = Refusals::default();
     for _ in 0..12 {
         let record = execution(&mut random, &Shape::SMALL).to_bytes();
         let sections = cut(&record).interleaved(&mut random).sections();

@@ -4,7 +4,7 @@ use mathlib.Core.Bool.{cond}
 use mathlib.Core.List.{List, [], _∷_, map}
 use lib.ListN.{length, take}
 use Rattle.base.specs.Lists.{for, count, below, member}
-use Rattle.model.specs.Execution.{Kind, isLoad, isSemaphore, Instruction}
+use Rattle.model.specs.Execution.{Kind, isLoad, isSemaphore, Instruction, Execution}
 use Rattle.model.specs.Questions.{at, lineLength, entryLength, moreLength}
 use Rattle.model.specs.Calls.{Answer, says, _>>=_, _>>_, asks, readAll, question25, RecordReply, recordReply}
 
@@ -26,6 +26,10 @@ seenLength k size = cond (isSemaphore k) 8 (cond (isLoad k) (8 + moreLength k si
 unfoldable pub seenPlaces : ℕ → List Instruction → List ℕ
 seenPlaces lines is = for is (λ i. count (dataPlace lines is i) (seenLength (i .kind) (i .size)))
 
+-- the same of an execution
+abbrev pub seenIn : Execution → List ℕ
+seenIn e = seenPlaces (length (e .lines)) (e .instructions)
+
 -- bytes with zeros at these places, and all others as they are
 unfoldable pub zeroed : List ℕ → List ℕ → List ℕ
 zeroed places bytes = map (λ k. cond (member places k) 0 (at bytes k)) (below (length bytes))
@@ -35,7 +39,7 @@ unfoldable pub copying : List ℕ → List ℕ → Answer (List ℕ)
 copying bytes buffer = do
   e ← readAll bytes
   asks 25 (question25 bytes buffer)
-  says (zeroed (seenPlaces (length (e .lines)) (e .instructions)) bytes)
+  says (zeroed (seenIn e) bytes)
 
 unfoldable pub solversCopyCall : List ℕ → List ℕ → RecordReply
 solversCopyCall bytes buffer = recordReply buffer (copying bytes buffer)

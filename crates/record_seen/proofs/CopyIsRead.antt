@@ -3,7 +3,7 @@ use Prim.Native.Nat.{ℕ, zero, suc, _+_, _*_}
 use native.Mathlib.Nat.{mul-comm}
 use native.Mathlib.Omega.{arith}
 use mathlib.Core.Path.{_≡_, refl, sym, ap, ap₂, _∙_, subst}
-use mathlib.Core.Bool.{Bool, true, false, not}
+use mathlib.Core.Bool.{Bool, true, false}
 use mathlib.Core.List.{List, [], _∷_, _++_, append-nil, append-assoc, map, map-append}
 use lib.ListN.{length, getD, take, drop, replicate, length-append, length-replicate, List·getD-map}
 use lib.Seq.{take-at}
@@ -20,8 +20,8 @@ use Rattle.record_sections.proofs.Grouping.{length-for}
 use Rattle.record_sections.proofs.Settled.{settled-again, lines-read}
 use Rattle.record_sections.proofs.ReadIsWritten.{ends}
 use Rattle.record_sections.proofs.WrittenIsRead.{said, reply-done}
-use Rattle.model.specs.SolversCopy.{seenPlaces, zeroed, copying, solversCopyCall}
-use Rattle.record_seen.specs.SolversClaims.{seenIn, sawZeros, unseen, CopyIsRead}
+use Rattle.model.specs.SolversCopy.{seenPlaces, seenIn, zeroed, copying, solversCopyCall}
+use Rattle.record_seen.specs.SolversClaims.{sawZeros, unseen, CopyIsRead}
 use Rattle.record_seen.proofs.Hiding.{hide, hide-append, hide-none}
 use Rattle.record_seen.proofs.Places.{zeroed-hidden, maskOf, programMask, recordMask, ByFrom, seen-places}
 use Rattle.record_seen.proofs.Unseen.{unseen-length, unseen-count, entry-again}
@@ -39,18 +39,17 @@ hidden-apart ms ns x y s h = ap (λ (l : List ℕ). l ++ s) (hide-append ms ns x
 
 module _ (processors : ℕ) (lines : List Attribute) where
   many-again : (p n : ℕ) (done : List Instruction) (bytes : List ℕ) (out : List Instruction) (r : List ℕ) → many (readInstruction processors lines p) n done bytes ≡ found out r
-      → (new : List Instruction) × (out ≡ done ++ new) × (length new ≡ n) × Each (λ i. i .processor ≡ p) new × Again (many (readInstruction processors lines p) n) (for new maskOf) done bytes out r
+      → (new : List Instruction) × (out ≡ done ++ new) × Each (λ i. i .processor ≡ p) new × Again (many (readInstruction processors lines p) n) (for new maskOf) done bytes out r
   unfolding many next for hide
   many-again p zero done bytes out r h =
       let z : out ≡ done = cc in
-      ([], z ∙ sym (append-nil done), refl, tt, record { part = []; bytes-are = (let w : bytes ≡ r = cc in w); as-long = refl; again = λ s. ap (λ (d : List Instruction). found (map sawZeros d) s) (sym z) })
+      ([], z ∙ sym (append-nil done), tt, record { part = []; bytes-are = (let w : bytes ≡ r = cc in w); as-long = refl; again = λ s. ap (λ (d : List Instruction). found (map sawZeros d) s) (sym z) })
   many-again p (suc n) done bytes out r h =
       step (readInstruction processors lines p done bytes) _ out r h (λ i rest e k.
       let one = entry-again processors lines p done bytes i rest e in
-      let (new, out-is, counted, by, m) = many-again p n (done ++ (i ∷ [])) rest out r k in (
+      let (new, out-is, by, m) = many-again p n (done ++ (i ∷ [])) rest out r k in (
         i ∷ new,
         out-is ∙ append-assoc done (i ∷ []) new,
-        ap suc counted,
         (one .by, by),
         record {
           part = one .entry ++ m .part;
@@ -70,7 +69,7 @@ module _ (processors : ℕ) (lines : List Attribute) where
   program-again p done bytes out r h =
       step (byte bytes) _ out r h (λ n b1 e1 h1.
       step (ask 5 (question5 done n) b1) _ out r h1 (λ u2 b2 e2 h2.
-      let (new, out-is, counted, by, m) = many-again p n done b2 out r h2 in
+      let (new, out-is, by, m) = many-again p n done b2 out r h2 in
       let five : question5 (map sawZeros done) n ≡ true = ap (λ (k : ℕ). leb (k + n) 40) (unseen-length done) ∙ asked 5 (question5 done n) b1 u2 b2 e2 in (
         new,
         out-is,

@@ -234,7 +234,4 @@ seen-places lines processors programs by numbered =
     ∙ ap₂ (λ (a b : List ℕ). a ++ b) (places-none 2 (9 * lines))
     (ap (λ (n : ℕ). placesOf n (for programs programMask)) (let z : 2 + length (replicate (9 * lines) false) ≡ 2 + 9 * lines + 0 = omega (arith, length-replicate (9 * lines) false) in z)
     ∙ programs-places (2 + 9 * lines) 0 programs by
-    ∙ ap (λ (n : ℕ). seenFrom n is) (let z : suc (2 + 9 * lines) ≡ 3 + 9 * lines + entriesLength [] = omega (arith, nothing) in z)))
-  where
-    nothing : entriesLength [] ≡ 0
-    nothing = entries-length-none
+    ∙ ap (λ (n : ℕ). seenFrom n is) (let z : suc (2 + 9 * lines) ≡ 3 + 9 * lines + entriesLength [] = omega (arith, entries-length-none) in z)))

@@ -17,8 +17,8 @@ use Rattle.model.specs.Calls.{says, andThen, asks, readAll, question25, recordR
 use Rattle.model.specs.Sections.{lineBytes, dataBytes, entryBytes, pairBytes}
 use Rattle.model.proofs.Asking.{after-says}
 use Rattle.record_sections.proofs.Rendered.{kind-numbered, Own, OwnFrom, programAs}
-use Rattle.model.specs.SolversCopy.{zeroed, copying, solversCopyCall}
-use Rattle.record_seen.specs.SolversClaims.{seenIn, alikeBut, SameCopies}
+use Rattle.model.specs.SolversCopy.{seenIn, zeroed, copying, solversCopyCall}
+use Rattle.record_seen.specs.SolversClaims.{alikeBut, SameCopies}
 use Rattle.record_seen.proofs.Hiding.{hide, hide-length, hide-append}
 use Rattle.record_seen.proofs.Places.{placesOf, dataMask, data-mask-length, maskOf, programMask, recordMask}
 use Rattle.record_seen.proofs.Within.{shape, seen-mask, lines-long, seen-hidden}

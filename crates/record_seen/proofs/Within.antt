@@ -16,8 +16,7 @@ use Rattle.model.proofs.Accepted.{read-found, read-accepted}
 use Rattle.record_sections.proofs.Rendered.{Own, OwnFrom, programAs}
 use Rattle.record_sections.proofs.Grouping.{each-map, length-for}
 use Rattle.record_sections.proofs.ReadIsWritten.{Rendered, rendered}
-use Rattle.model.specs.SolversCopy.{seenPlaces, zeroed}
-use Rattle.record_seen.specs.SolversClaims.{seenIn}
+use Rattle.model.specs.SolversCopy.{seenPlaces, seenIn, zeroed}
 use Rattle.record_seen.proofs.Hiding.{hide}
 use Rattle.record_seen.proofs.Places.{placesOf, places-within, zeroed-hidden, data-mask-length, maskOf, programMask, recordMask, ByFrom, seen-places}
 

@@ -9,11 +9,7 @@ use Rattle.base.specs.Lists.{all, below, member}
 use Rattle.model.specs.Execution.{Instruction, Execution}
 use Rattle.model.specs.Questions.{at}
 use Rattle.model.specs.Calls.{says, readAll, done}
-use Rattle.model.specs.SolversCopy.{seenPlaces, solversCopyCall}
-
--- the places of all that was seen in the record of an execution
-abbrev pub seenIn : Execution → List ℕ
-seenIn e = seenPlaces (length (e .lines)) (e .instructions)
+use Rattle.model.specs.SolversCopy.{seenIn, solversCopyCall}
 
 -- as many bytes, and the same at all other places
 unfoldable pub alikeBut : List ℕ → List ℕ → List ℕ → Bool

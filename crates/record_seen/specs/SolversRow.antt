@@ -7,8 +7,8 @@ use lib.ListN.{replicate}
 use Rattle.model.specs.Execution as execution
 use Rattle.model.specs.Calls.{says, readAll, done}
 use Rattle.model.specs.Notation.{x, wb, st, ld-acq, sem-rel, ld16, recordOf}
-use Rattle.model.specs.SolversCopy.{solversCopyCall}
-use Rattle.record_seen.specs.SolversClaims.{seenIn, alikeBut, unseen}
+use Rattle.model.specs.SolversCopy.{seenIn, solversCopyCall}
+use Rattle.record_seen.specs.SolversClaims.{alikeBut, unseen}
 
 -- st x=7; none; ld.acq x sees a, sem.rel x sees b writes 4, ld16 x sees c and in the upper half d; a pair of the load and the semaphore
 unfoldable pub rowRecord : ℕ → ℕ → ℕ → ℕ → List ℕ
