@@ -7,3 +7,4 @@ pub mod Folds
 pub mod Copies
 pub mod Bits
 pub mod Entries
+pub mod Orders

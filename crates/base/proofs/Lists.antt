@@ -7,11 +7,11 @@ use mathlib.Core.Bool.{Bool, true, false, not, cond, _&&_, _||_, and-true, and-f
 use mathlib.Core.List.{List, [], _∷_, _++_, append-nil, append-assoc, map, map-append, List·Memᴰ, List·Memᴰ·head, List·Memᴰ·tail, List·Memᴰ·not-nil, List·Memᴰ·append-cases, Memᴰ·append-left, Memᴰ·append-right, List·Memᴰ·cases-cons}
 use mathlib.Core.Logic.{_⊎_, inl, inr, ⊎-elim}
 use lib.Dec.{eqb, ltb}
-use lib.ListN.{length, getD, length-append}
+use lib.ListN.{length, getD}
 use lib.Seq.{append-snoc}
-use borrow.Author.Tests.{eq-eqb, eqb-true, ltb-true, lt-ltb}
+use borrow.Author.Tests.{eq-eqb, eqb-true, ltb-true}
 use Rattle.base.specs.Lists.{all, any, keep, when, for, count, below, member, distinct}
-use Rattle.base.proofs.Bools.{split, clash, is-false, and-parts, and-both}
+use Rattle.base.proofs.Bools.{clash, is-false, and-parts, and-both}
 
 module _ {A : Type 0} where
   -- tests that agree on the elements agree on the list
@@ -379,14 +379,6 @@ pub distinct-length : (n : ℕ) (xs : List ℕ) → distinct n [] xs ≡ true �
 unfolding free below
 distinct-length n xs h =
     omega (arith, distinct-free n [] xs h, keep-length (λ a. not (member [] a)) (count 0 n), length-count 0 n)
-
--- n different numbers below n are all of them
-pub distinct-full : (n : ℕ) (xs : List ℕ) → distinct n [] xs ≡ true → length xs ≡ n → (a : ℕ) → a < n → member xs a ≡ true
-distinct-full n xs h full a l =
-    split (member xs a) (λ t. t)
-    (λ f.
-    let more : distinct n [] (xs ++ (a ∷ [])) ≡ true = distinct-append n [] xs a ∙ and-both h (and-both (lt-ltb a n l) (ap not f)) in
-    absurd (omega (arith, distinct-length n (xs ++ (a ∷ [])) more, length-append xs (a ∷ []))))
 
 -- different numbers: so are the first k
 pub distinct-first : (n : ℕ) (passed xs ys : List ℕ) → distinct n passed (xs ++ ys) ≡ true → distinct n passed xs ≡ true

@@ -4,3 +4,4 @@ pub mod Lex
 pub mod Below
 pub mod Fold
 pub mod Bits
+pub mod Orders

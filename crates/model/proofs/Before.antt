@@ -35,15 +35,20 @@ before-stands (y ∷ ys) a b h = go (eqb y b) (eqb y a) (before-stands ys a b) h
 pub before-not : (xs : List ℕ) (a b : ℕ) → member xs a ≡ false → before xs a b ≡ false
 before-not xs a b h = is-false (before xs a b) (λ t. clash (before-stands xs a b t) h)
 
+-- what is before is not after
+pub before-not-after : (xs : List ℕ) (a b : ℕ) → before xs a b ≡ true → before xs b a ≡ false
+unfolding before
+before-not-after [] a b h = refl
+before-not-after (y ∷ ys) a b h = go (eqb y a) (eqb y b) (before-not-after ys a b) h
+  where
+    go : (p q : Bool) → (before ys a b ≡ true → before ys b a ≡ false) → (not q && (p || before ys a b)) ≡ true → (not p && (q || before ys b a)) ≡ false
+    go p true ih k = absurd (false≢true k)
+    go true false ih k = refl
+    go false false ih k = ih k
+
 -- nothing is before itself
 pub before-itself : (xs : List ℕ) (a : ℕ) → before xs a a ≡ false
-unfolding before
-before-itself [] a = refl
-before-itself (y ∷ ys) a = go (eqb y a) (before-itself ys a)
-  where
-    go : (p : Bool) → before ys a a ≡ false → (not p && (p || before ys a a)) ≡ false
-    go true h = refl
-    go false h = h
+before-itself xs a = is-false (before xs a a) (λ t. clash t (before-not-after xs a a t))
 
 -- a before b, and c not before b: a before c
 pub before-past : (xs : List ℕ) (a b c : ℕ) → before xs a b ≡ true → before xs c b ≡ false → before xs a c ≡ true
@@ -65,6 +70,10 @@ before-from xs a b c h k = go (before xs a c) refl
     go : (t : Bool) → before xs a c ≡ t → t ≡ true
     go true e = refl
     go false e = clash (before-past xs b c a k e) h
+
+-- a before b, and b before c: a before c
+pub before-then : (xs : List ℕ) (a b c : ℕ) → before xs a b ≡ true → before xs b c ≡ true → before xs a c ≡ true
+before-then xs a b c h k = before-from xs a b c (before-not-after xs a b h) k
 
 -- a stands, and not before another b: b before a
 pub before-other : (xs : List ℕ) (a b : ℕ) → member xs a ≡ true → (a ≡ b → ⊥) → before xs a b ≡ false → before xs b a ≡ true

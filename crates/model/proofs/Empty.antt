@@ -86,7 +86,7 @@ module _ (p : ℕ) (ls : List (List ℕ)) (two : question2 p ≡ true) (three : 
 
   judges : Legal blankRecord []
   unfolding operations operationCount distinct consistent
-  judges = legal-consistent blankRecord blankExecution [] reads [] refl refl .1 (keeps-empty (rules blankExecution))
+  judges = legal-consistent blankRecord blankExecution [] reads [] (refl, refl) .1 (keeps-empty (rules blankExecution))
 
   refuses-order : (o : ℕ) (order : List ℕ) → judgeCall blankRecord (o ∷ order) ≡ refuses 16
   unfolding judgeCall judgeOrder operations operationCount

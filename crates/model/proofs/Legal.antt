@@ -10,6 +10,7 @@ use lib.ListN.{length}
 use lib.Dec.{eqb}
 use borrow.Author.Tests.{eq-eqb, eqb-true}
 use Rattle.base.specs.Lists.{any, distinct}
+use Rattle.base.specs.Orders.{OrderOf}
 use Rattle.base.proofs.Bools.{split}
 use Rattle.model.specs.Execution.{Execution, operations}
 use Rattle.model.specs.Questions.{found, readRecord}
@@ -43,14 +44,14 @@ refusal h = let z : _≡_ {A = ℕ} 0 1 = cc in absurd (omega arith)
 
 module _ (bytes : List ℕ) (e : Execution) (rest : List ℕ) (read : readRecord bytes ≡ found e rest) where
   -- the judge of an offered order that passes questions 16 and 17
-  pub judge-order : (order : List ℕ) → length order ≡ operations e → distinct (operations e) [] order ≡ true
+  pub judge-order : (order : List ℕ) → OrderOf (operations e) order
       → judgeCall bytes order ≡ says (judgementOf (lowestBroken e order))
   unfolding judgeCall judgeOrder
-  judge-order order l d =
+  judge-order order (l, d) =
       sym (asked-yes 17 (says (judgementOf (lowestBroken e order))) d ∙ asked-yes 16 _ (eq-eqb (length order) (operations e) l) ∙ after-says (λ k. judgeOrder k order) (found-says bytes e rest read))
 
   -- an order that the judge calls legal passes questions 16 and 17
-  pub legal-passes : (order : List ℕ) → Legal bytes order → (length order ≡ operations e) × (distinct (operations e) [] order ≡ true)
+  pub legal-passes : (order : List ℕ) → Legal bytes order → OrderOf (operations e) order
   unfolding judgeCall readAll judgeOrder answerOf andThen asks
   legal-passes order h =
       split (eqb (length order) (operations e))
@@ -58,11 +59,11 @@ module _ (bytes : List ℕ) (e : Execution) (rest : List ℕ) (read : readRecord
       (λ p. refusal (rw (read, p) at h))
 
   -- full and consistent is legal
-  pub legal-consistent : (order : List ℕ) → length order ≡ operations e → distinct (operations e) [] order ≡ true
+  pub legal-consistent : (order : List ℕ) → OrderOf (operations e) order
       → (judgeCall bytes order ≡ says legal) ↔ (consistent e order ≡ true)
   unfolding lowestBroken consistent
-  legal-consistent order l d =
-      let j = judge-order order l d in
+  legal-consistent order o =
+      let j = judge-order order o in
       let both : (judgementOf (lowestBroken e order) ≡ legal) ↔ (consistent e order ≡ true) = lowest-keeps _ (rules e) order in
       (λ h. both .0 (cc), λ h. j ∙ ap says (both .1 h))
 

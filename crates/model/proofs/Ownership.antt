@@ -4,7 +4,7 @@ use native.Mathlib.Omega.{arith}
 use mathlib.Core.Path.{_≡_, refl, sym, ap, _∙_, subst}
 use mathlib.Core.Bool.{true}
 use mathlib.Core.List.{List, _∷_, List·Memᴰ, List·Memᴰ·head, List·Memᴰ·tail, Memᴰ·map, Memᴰ·of-map}
-use lib.ListN.{length}
+use lib.ListN.{length, getD}
 use Rattle.base.proofs.Bools.{and-parts}
 use Rattle.base.proofs.Lists.{in-keep, of-keep, in-for, in-below, of-below, place-of}
 use Rattle.model.specs.Execution.{isLoad, isStore, isSemaphore, Instruction, Execution, Role, R, LV, F, RV, roles, numberOf, Operation, operationsOf, allOperations, loads, stores, semaphores, everyProcessor}
@@ -26,6 +26,14 @@ module _ (p : ℕ) where
       let (k, l, e) = place-of F m in
       let n = role-number p i k l in
       subst (λ (s : Role). (i .first ≤ numberOf i s) × (numberOf i s < i .first + length (roles p (i .kind)))) e (omega arith, omega arith)
+
+  -- two operations of one instruction with one number have one role
+  pub one-role : (i : Instruction) {r s : Role} → List·Memᴰ r (roles p (i .kind)) → List·Memᴰ s (roles p (i .kind)) → numberOf i r ≡ numberOf i s → r ≡ s
+  one-role i mr ms e =
+      let (j, lj, ej) = place-of F mr in
+      let (k, lk, ek) = place-of F ms in
+      let same : j ≡ k = omega (arith, role-number p i j lj, role-number p i k lk, ap (numberOf i) ej, ap (numberOf i) ek) in
+      sym ej ∙ ap (λ (n : ℕ). getD (roles p (i .kind)) n F) same ∙ ek
 
   -- Instructions numbered one after the other
 

@@ -1,5 +1,4 @@
 -- The claims about the definitions hold; that about a record with no instruction is in `Empty`.
-use Rattle.model.specs.Execution.{Execution, operations}
 use Rattle.model.specs.Rules.{rules, consistent}
 use Rattle.model.specs.Claims.{FullIsLegal, PrefixIsConsistent, PrefixesAre, TableIsRules}
 use Rattle.model.proofs.Accepted.{read-found}
@@ -8,7 +7,7 @@ use Rattle.model.proofs.Legal.{legal-consistent, consistent-ascend, con
 use Rattle.model.proofs.ProgramOrder.{marks-rule2, marks-rule3, marks-rule4}
 
 pub full-is-legal : FullIsLegal
-full-is-legal bytes e h order long different = let (rest, f) = read-found bytes e h in legal-consistent bytes e rest f order long different
+full-is-legal bytes e h order o = let (rest, f) = read-found bytes e h in legal-consistent bytes e rest f order o
 
 pub prefix-is-consistent : PrefixIsConsistent
 unfolding consistent

@@ -5,11 +5,13 @@ use mathlib.Core.Path.{_≡_, refl, sym, ap, _∙_, subst}
 use mathlib.Core.Bool.{true, false, not, _&&_}
 use mathlib.Core.List.{List, [], List·Memᴰ, List·Memᴰ·head, Memᴰ·map}
 use lib.Dec.{eqb}
-use lib.ListN.{length, getD, List·getD-map}
+use lib.ListN.{getD, List·getD-map}
 use borrow.Author.Tests.{eq-eqb, eqb-true, eqb-false, ne-eqb}
-use Rattle.base.specs.Lists.{keep, member, distinct}
+use Rattle.base.specs.Lists.{keep, member}
+use Rattle.base.specs.Orders.{OrderOf}
 use Rattle.base.proofs.Bools.{split, clash, is-false, and-parts, and-both, not-both}
-use Rattle.base.proofs.Lists.{any-map, any-witness, all-member, in-member, in-count, length-count, getD-member, of-keep, in-for, in-when, distinct-full}
+use Rattle.base.proofs.Lists.{any-map, any-witness, all-member, in-member, in-count, length-count, getD-member, of-keep, in-for, in-when}
+use Rattle.base.proofs.Orders.{order-has}
 use Rattle.model.specs.Execution.{Instruction, Execution, R, LV, RV, numberOf, WC, attributeNumber, attributeOf, isWB, noLine, lineAt, linesFrom, attributeAt, operations, allOperations, stores, semaphores}
 use Rattle.model.specs.Questions.{question26, question27, lineAttributes}
 use Rattle.model.specs.Rules.{before, accesses, inWB, link15, must, RV-own, linksOf, conflict, forConflicts, rule9, sightOf, rule16, rules, local, broken, consistent}
@@ -128,21 +130,21 @@ module _ (e : Execution) (accepted : Accepted e) where
         (λ f. other-fails hs l (eqb-false (w .number) (s .number) f) stands)
 
 -- an order of all operations has the own RV of each store
-own-stands : (e : Execution) → Accepted e → (order : List ℕ) → length order ≡ operations e → distinct (operations e) [] order ≡ true
+own-stands : (e : Execution) → Accepted e → (order : List ℕ) → OrderOf (operations e) order
     → {w : Instruction} → List·Memᴰ w (stores e) → member order (RV-own w) ≡ true
 unfolding operations allOperations
-own-stands e accepted order full different {w} m =
-    distinct-full (operations e) order different full (RV-own w)
+own-stands e accepted order all {w} m =
+    order-has (operations e) order all (RV-own w)
     (omega (arith, number-below (e .processors) 0 0 (e .instructions) _ (accepted .consecutive) (RV-in e m (w .processor) (store-processor e accepted m))))
 
 pub no-semaphore-local : NoSemaphoreLocal
 no-semaphore-local bytes e h order legal s m b there =
     let accepted = read-accepted bytes e h in
     let (rest, f) = read-found bytes e h in
-    let (full, different) = legal-passes bytes e rest f order legal in
-    let consists = legal-consistent bytes e rest f order full different .0 legal in
+    let all = legal-passes bytes e rest f order legal in
+    let consists = legal-consistent bytes e rest f order all .0 legal in
     is-false (local order (sightOf e s b)) (λ t.
-    none-local e accepted order consists m there (local-by e order s b t .1) (own-stands e accepted order full different (semaphore-store e m)))
+    none-local e accepted order consists m there (local-by e order s b t .1) (own-stands e accepted order all (semaphore-store e m)))
 
 pub either-line : EitherLine
 unfolding linesFrom

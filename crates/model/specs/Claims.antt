@@ -7,6 +7,7 @@ use mathlib.Core.Logic.{_↔_}
 use lib.ListN.{length, getD, take, set, replicate}
 use Rattle.base.specs.Lists.{member, distinct}
 use Rattle.base.specs.Lex.{Less}
+use Rattle.base.specs.Orders.{OrderOf}
 use Rattle.model.specs.Execution.{Kind, isLoad, isStore, isAcquire, isRelease, isFence, Attribute, WB, UC, WC, attributeNumber, attributeOf, Line, Instruction, Execution, Operation, operations, semaphores, lineAt, linesFrom, attributeAt}
 use Rattle.model.specs.Questions.{at, lineLength, initialPlace, question2, question3, question4, lineOf}
 use Rattle.model.specs.Rules.{accesses, isRorLV, earlier, link8, inUC, link13, Claim, must, sees, linksOf, sightOf, rules, local, broken, keeps, consistent}
@@ -21,7 +22,7 @@ use Rattle.model.specs.Notation.{recordOf}
 abbrev pub FullIsLegal : Type 0
 FullIsLegal =
     (bytes : List ℕ) (e : Execution) → readAll bytes ≡ says e
-    → (order : List ℕ) → length order ≡ operations e → distinct (operations e) [] order ≡ true
+    → (order : List ℕ) → OrderOf (operations e) order
     → Legal bytes order ↔ (consistent e order ≡ true)
 
 -- what a prefix settles stays settled: where a prefix is consistent, each shorter one is

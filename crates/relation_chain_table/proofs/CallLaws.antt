@@ -11,9 +11,9 @@ use Rattle.model.specs.Execution.{Execution, operations}
 use Rattle.model.specs.Questions.{found, readRecord}
 use Rattle.model.specs.Rules.{Link, linksOf, linked}
 use Rattle.model.specs.Chains.{chainMark, chainMarks}
-use Rattle.model.specs.Calls.{andThen, asks, answerOf, readAll, tableMarks, tabling, tableReply, tableCall}
+use Rattle.model.specs.Calls.{says, andThen, asks, answerOf, readAll, done, tableMarks, tabling, tableReply, tableCall}
 use Rattle.model.proofs.Accepted.{accepted, read-found}
-use Rattle.relation_chain_table.specs.Paths.{BytesArePaths, ChainsArePaths}
+use Rattle.relation_chain_table.specs.Paths.{mark, BytesArePaths, ChainsArePaths}
 use Rattle.relation_chain_table.proofs.LinkedLaws.{chain-marks-are-paths}
 use Rattle.relation_chain_table.proofs.RowLaws.{in-square, rows-length, rows-at}
 
@@ -36,18 +36,26 @@ module _ (bytes table : List ℕ) (e : Execution) (rest : List ℕ) (read : read
   abbrev links : List Link
   links = linksOf e (linked e)
 
-  -- the table that the call leaves
+  -- what the call answers, and the table that it leaves
+  pub table-done : tableCall bytes table .answer ≡ says done
+  unfolding tableCall tabling readAll tableMarks tableReply answerOf andThen asks
+  table-done = rw (read, le-leb (operations e * operations e) (length table) room)
+
   pub table-left : tableCall bytes table .table ≡ chainMarks (operations e) links ++ drop (length (chainMarks (operations e) links)) table
   unfolding tableCall tabling readAll tableMarks tableReply answerOf andThen asks
   table-left = rw (read, le-leb (operations e * operations e) (length table) room)
 
+  -- each of its marks
+  pub mark-left : (a b : ℕ) → a < operations e → b < operations e → mark (operations e) (tableCall bytes table .table) a b ≡ chainMark (operations e) links a b
+  mark-left a b h l =
+      let marks = chainMarks (operations e) links in
+      ap (λ (t : List ℕ). mark (operations e) t a b) table-left
+      ∙ List·getD-append marks (drop (length marks) table) 0 (a * operations e + b) (omega (arith, marks-length (operations e) links, in-square a b (operations e) h l))
+      ∙ mark-at (operations e) links a b h l
+
   pub bytes-are-paths : BytesArePaths (operations e) links (tableCall bytes table .table)
   bytes-are-paths a b h l =
-      let marks = chainMarks (operations e) links in
-      let there : getD (tableCall bytes table .table) (a * operations e + b) 0 ≡ chainMark (operations e) links a b =
-      ap (λ (t : List ℕ). getD t (a * operations e + b) 0) table-left
-      ∙ List·getD-append marks (drop (length marks) table) 0 (a * operations e + b) (omega (arith, marks-length (operations e) links, in-square a b (operations e) h l))
-      ∙ mark-at (operations e) links a b h l in
+      let there = mark-left a b h l in
       let both = chain-marks-are-paths e (accepted bytes e rest read) a b h l in
       (λ t. both .0 (sym there ∙ t), λ p. there ∙ both .1 p)
 

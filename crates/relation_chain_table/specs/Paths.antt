@@ -18,13 +18,17 @@ pub data Path (links : List Link) : ℕ → ℕ → Type 0 where
 abbrev pub Within : ℕ → List Link → Type 0
 Within n links = (a b : ℕ) → List·Memᴰ (a, b) links → (a < n) × (b < n)
 
--- mark (a, b) is 1 exactly where a path leads from a to b
+-- the chain mark (a, b) is 1 exactly where a path leads from a to b
 abbrev pub MarksArePaths : ℕ → List Link → Type 0
 MarksArePaths n links = (a b : ℕ) → a < n → b < n → (chainMark n links a b ≡ 1) ↔ Path links a b
 
--- the byte at a × n + b of a table is 1 exactly where a path leads from a to b
+-- mark (a, b) of a table of n rows of n marks: the byte at a × n + b
+abbrev pub mark : ℕ → List ℕ → ℕ → ℕ → ℕ
+mark n table a b = getD table (a * n + b) 0
+
+-- mark (a, b) of a table, a and b below n, is 1 exactly where a path leads from a to b
 abbrev pub BytesArePaths : ℕ → List Link → List ℕ → Type 0
-BytesArePaths n links table = (a b : ℕ) → a < n → b < n → (getD table (a * n + b) 0 ≡ 1) ↔ Path links a b
+BytesArePaths n links table = (a b : ℕ) → a < n → b < n → (mark n table a b ≡ 1) ↔ Path links a b
 
 -- Where the record is accepted and the table has room, the call leaves a mark of 1 exactly where a path of links leads.
 abbrev pub ChainsArePaths : Type 0

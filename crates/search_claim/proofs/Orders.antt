@@ -1,15 +1,12 @@
 -- The legal orders of an accepted record are the full prefixes of its enumeration.
 use Prim.Native.Nat.{ℕ, _≤_}
 use native.Mathlib.Nat.{le-refl}
-use native.Mathlib.Omega.{arith}
 use mathlib.Core.Path.{_≡_}
 use mathlib.Core.Bool.{Bool, true, false}
-use mathlib.Core.List.{List, [], List·Memᴰ}
+use mathlib.Core.List.{List, List·Memᴰ}
 use lib.ListN.{length}
-use lib.Dec.{eqb}
 use borrow.Author.Tests.{eq-eqb, eqb-true}
-use Rattle.base.specs.Lists.{distinct}
-use Rattle.base.proofs.Bools.{split, clash}
+use Rattle.base.proofs.Bools.{clash}
 use Rattle.model.specs.Execution.{Execution, operations}
 use Rattle.model.specs.Questions.{found, readRecord}
 use Rattle.model.specs.Rules.{rules, keeps}
@@ -36,12 +33,12 @@ module _ (bytes : List ℕ) (e : Execution) (rest : List ℕ) (read : readRecord
   legal-prefix : (order : List ℕ) → Legal bytes order → List·Memᴰ order (prefixes (operations e) (keeps (rules e))) × (isFull e order ≡ true)
   legal-prefix order h =
       let (l, d) = legal-passes bytes e rest read order h in
-      (consistent-are e order .1 (d, legal-consistent bytes e rest read order l d .0 h), eq-eqb (length order) (operations e) l)
+      (consistent-are e order .1 (d, legal-consistent bytes e rest read order (l, d) .0 h), eq-eqb (length order) (operations e) l)
 
   prefix-legal : (order : List ℕ) → List·Memᴰ order (prefixes (operations e) (keeps (rules e))) → isFull e order ≡ true → Legal bytes order
   prefix-legal order m f =
       let (d, k) = consistent-are e order .0 m in
-      legal-consistent bytes e rest read order (eqb-true (length order) (operations e) f) d .1 k
+      legal-consistent bytes e rest read order (eqb-true (length order) (operations e) f, d) .1 k
 
   -- the last prefix decides: full, it is the first legal order; else there is none
   pub last-legal : isFull e (prefixAt e (total e)) ≡ true → FirstLegal bytes (prefixAt e (total e))

@@ -5,25 +5,16 @@ use mathlib.Core.Path.{_≡_, sym, ap, _∙_, subst}
 use mathlib.Core.List.{List·Memᴰ, Memᴰ·map, Memᴰ·of-map}
 use lib.ListN.{getD}
 use Rattle.base.specs.Lists.{below}
-use Rattle.base.proofs.Lists.{in-below, of-below, place-of}
+use Rattle.base.proofs.Lists.{in-below, of-below}
 use Rattle.model.specs.Execution as model
-use Rattle.model.specs.Execution.{Instruction, Role, F, roles, numberOf, operations, allOperations}
+use Rattle.model.specs.Execution.{Instruction, Role, roles, numberOf, operations, allOperations}
 use Rattle.model.specs.Accepted.{Accepted}
-use Rattle.model.proofs.Numbers.{role-number}
 use Rattle.record_decoded.specs.Kinds.{roleNumbered}
 use Rattle.record_decoded.specs.Decoded.{instructionAt, instructionsOf, executionOf}
 use Rattle.relation_links.specs.Operations.{operationAt, tableOf}
 use Rattle.relation_links.proofs.CompiledLaws as compiled
-use Rattle.model.proofs.Ownership.{one-owner}
+use Rattle.model.proofs.Ownership.{one-owner, one-role}
 use Rattle.search_meaning.proofs.Tables.{Tables, TablesMean}
-
--- two operations of one instruction with one number have one role
-one-role : (p : ℕ) (i : Instruction) {r s : Role} → List·Memᴰ r (roles p (i .kind)) → List·Memᴰ s (roles p (i .kind)) → numberOf i r ≡ numberOf i s → r ≡ s
-one-role p i mr ms e =
-    let (j, lj, ej) = place-of F mr in
-    let (k, lk, ek) = place-of F ms in
-    let same : j ≡ k = omega (arith, role-number p i j lj, role-number p i k lk, ap (numberOf i) ej, ap (numberOf i) ek) in
-    sym ej ∙ ap (λ (n : ℕ). getD (roles p (i .kind)) n F) same ∙ ek
 
 module _ {t : Tables} (h : TablesMean t) (accepted : Accepted (executionOf (t .bytes) (t .execution))) (x : ℕ) (low : x < operations (executionOf (t .bytes) (t .execution))) where
   abbrev e : model.Execution
