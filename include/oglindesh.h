@@ -119,7 +119,8 @@ struct oglindesh_search_reply oglindesh_search(const uint8_t *record, size_t len
 
 /* Writes the chain table of a record's N operations, N rows of N bytes: the byte at a * N + b becomes 1 where one or more links
  * (a 'before' that rules 1 to 8, 13 and 15 demand without an 'if') lead from operation a to operation b, else 0. Bytes behind
- * stay.
+ * stay. Where it is 1, a stands before b in every order that is judged legal. Where a and b differ and it is 0, the links alone
+ * let b stand before a; another rule may forbid it.
  *   DONE      it is written
  *   256 + q   question q refuses it: 1 to 15, 26 and 27 the record, 22 the table's length
  */

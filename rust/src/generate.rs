@@ -1,4 +1,4 @@
-//! Random records, orders and positions: well-formed ones, and damaged ones for every question.
+//! Random records, orders and positions: well-formed ones, and damaged ones for every question; all orders of few operations.
 
 use crate::random::Random;
 use crate::reference::notation::{access, semaphore, uc};
@@ -449,6 +449,23 @@ pub fn order(random: &mut Random, count: usize) -> Vec<u8> {
     let mut order: Vec<u8> = (0..count as u8).collect();
     random.shuffle(&mut order);
     order
+}
+
+/// All orders of so many operations.
+pub fn every_order(count: usize) -> Vec<Vec<u8>> {
+    let mut orders = vec![Vec::new()];
+    for next in 0..count as u8 {
+        let with_next = |order: &Vec<u8>| {
+            let order = order.clone();
+            (0..=order.len()).map(move |at| {
+                let mut longer = order.clone();
+                longer.insert(at, next);
+                longer
+            })
+        };
+        orders = orders.iter().flat_map(with_next).collect();
+    }
+    orders
 }
 
 /// All operations in a random order that keeps every link: rules 1 to 8, 13 and 15 hold.

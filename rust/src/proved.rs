@@ -368,7 +368,8 @@ fn rule(number: u32) -> u8 {
 /// first that it fails.
 ///
 /// The byte at a × N + b becomes 1 where one or more links of rules 1 to 8, 13 and 15 lead from operation a to operation b, else
-/// 0. Bytes past N × N stay as they are; at a refusal all do.
+/// 0. Bytes past N × N stay as they are; at a refusal all do. Where it is 1, a stands before b in every order that is judged
+/// legal; where a and b differ and it is 0, the links alone let b stand before a, though another rule may forbid it.
 ///
 /// ```
 /// use oglindesh::proved::chain_table;

@@ -1,7 +1,7 @@
 //! The proved judge beside the independent one, on legal orders, orders near legal ones, random and refused ones.
 
 use oglindesh::beside::judge;
-use oglindesh::generate::{damage_entries, damaged, execution, order, Shape};
+use oglindesh::generate::{damage_entries, damaged, every_order, execution, order, Shape};
 use oglindesh::random::Random;
 use oglindesh::reference::fast;
 use oglindesh::reference::record::Execution;
@@ -92,32 +92,11 @@ fn judges_agree_on_every_order_of_tiny_records() {
     for _ in 0..150 {
         let execution = execution(&mut random, &Shape::TINY);
         let bytes = execution.to_bytes();
-        let mut orders = Vec::new();
-        every_order(
-            execution.operation_count() as u8,
-            &mut Vec::new(),
-            &mut orders,
-        );
-        for order in &orders {
-            tally.ask(&bytes, order);
+        for order in every_order(execution.operation_count()) {
+            tally.ask(&bytes, &order);
         }
     }
     assert!(tally.legal > 0 && tally.broken.iter().filter(|&&count| count > 0).count() > 8);
-}
-
-/// All orders of `count` operations that begin with `order`.
-fn every_order(count: u8, order: &mut Vec<u8>, orders: &mut Vec<Vec<u8>>) {
-    if order.len() == usize::from(count) {
-        orders.push(order.clone());
-        return;
-    }
-    for entry in 0..count {
-        if !order.contains(&entry) {
-            order.push(entry);
-            every_order(count, order, orders);
-            order.pop();
-        }
-    }
 }
 
 #[test]

@@ -4,7 +4,7 @@ use oglindesh::answers::{answers, count_agrees, is_local, Searched};
 use oglindesh::beside::{
     chain_table, check, judge, proved_operation_count, search, search_from_start, verdict,
 };
-use oglindesh::generate::{execution, with_semaphores, Shape, ATTRIBUTES};
+use oglindesh::generate::{every_order, execution, with_semaphores, Shape, ATTRIBUTES};
 use oglindesh::random::Random;
 use oglindesh::reference::notation::{
     acq, ld, mf, programs, rel, sem_acq, sem_rel, semaphore, st, Draft, X, Y,
@@ -234,27 +234,10 @@ fn a_lock_taken_twice() {
     }
 }
 
-/// All orders of so many operations.
-fn all_orders(count: u8) -> Vec<Vec<u8>> {
-    let mut orders = vec![Vec::new()];
-    for next in 0..count {
-        let with_next = |order: &Vec<u8>| {
-            let order = order.clone();
-            (0..=order.len()).map(move |at| {
-                let mut longer = order.clone();
-                longer.insert(at, next);
-                longer
-            })
-        };
-        orders = orders.iter().flat_map(with_next).collect();
-    }
-    orders
-}
-
 /// Every order of two semaphores by two processors, of every mix of kinds, by both judges; and which rules are broken first.
 #[test]
 fn every_order_of_two_semaphores() {
-    let orders = all_orders(8);
+    let orders = every_order(8);
     assert_eq!(orders.len(), 40_320);
     let mixes = KINDS.map(|first| KINDS.map(|second| [first, second]));
     // What the second one sees, and the rules; 0 for a legal order. Where both see 0 there is none.

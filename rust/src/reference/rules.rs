@@ -52,11 +52,15 @@ pub fn lowest_broken(execution: &Execution, prefix: &[u8]) -> Option<u8> {
 
 /// The links: each 'before' that rules 1 to 8, 13 and 15 require without an 'if'.
 pub fn links(execution: &Execution) -> Vec<(usize, usize)> {
+    let rules = 1..=RULES.len() as u8;
+    rules.flat_map(|rule| links_of(execution, rule)).collect()
+}
+
+/// The links that one rule requires; none where it requires nothing without an 'if'.
+pub fn links_of(execution: &Execution, rule: u8) -> Vec<(usize, usize)> {
     let mut all = Vec::new();
-    for rule in &RULES {
-        if let Rule::Requires(links) = rule {
-            links(execution, &mut |a, b| all.push((a, b)));
-        }
+    if let Rule::Requires(links) = &RULES[usize::from(rule) - 1] {
+        links(execution, &mut |a, b| all.push((a, b)));
     }
     all
 }
