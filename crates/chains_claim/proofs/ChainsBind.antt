@@ -12,7 +12,7 @@ use Rattle.base.specs.Lists.{member}
 use Rattle.base.proofs.Bools.{clash, or-right, or-cases}
 use Rattle.model.specs.Execution.{Execution, operations}
 use Rattle.model.specs.Questions.{found, readRecord}
-use Rattle.model.specs.Rules.{Link, linksOf, linked}
+use Rattle.model.specs.Rules.{Link, before, linksOf, linked}
 use Rattle.model.specs.Chains.{reachedBy, chainMark}
 use Rattle.model.specs.Accepted.{Accepted}
 use Rattle.model.specs.Calls.{tableCall}
@@ -21,11 +21,11 @@ use Rattle.model.proofs.Before.{before-not-after}
 use Rattle.relation_chain_table.specs.Paths.{Path, one, more}
 use Rattle.relation_chain_table.proofs.LinkedLaws.{links-within, chain-marks-are-paths}
 use Rattle.relation_chain_table.proofs.CallLaws.{table-done, mark-left}
-use Rattle.chains_claim.specs.ChainsBind.{MayTurn, Binds, ChainsBind}
+use Rattle.chains_claim.specs.ChainsBind.{LinearExtension, Binds, ChainsBind}
 use Rattle.chains_claim.proofs.Rules.{rule-link}
 use Rattle.chains_claim.proofs.Ranks.{rankAt, rank-rises}
-use Rattle.chains_claim.proofs.Legals.{path-kept, legal-keeps}
-use Rattle.chains_claim.proofs.Cut.{path-rises, cut}
+use Rattle.chains_claim.proofs.LegalOrders.{path-kept, legal-keeps}
+use Rattle.chains_claim.proofs.Extensions.{path-rises, extension}
 
 module _ (e : Execution) (c : Accepted e) where
   abbrev n : ℕ
@@ -61,15 +61,19 @@ module _ (e : Execution) (c : Accepted e) where
       (λ t. more m (chain-marks-are-paths e c y b ly l .0 (eqb-true (chainMark n links y b) 1 t))) in
       or-right (eqb x b) (eqb (chainMark n links x b) 1) (eq-eqb (chainMark n links x b) 1 (chain-marks-are-paths e c x b lx l .1 path))
 
-  may-turn : (a b : ℕ) → b < n → (a ≡ b → ⊥) → chainMark n links a b ≡ 0 → MayTurn e a b
-  unfolding leadsTo
-  may-turn a b l other h =
-      let (order, o, kept, turned) = cut links (rankAt e c) (rank-rises e c) n (links-within e (linked e) (c .consecutive)) a b l
-      (leadsTo b) (leads-back b l) (rw (eq-eqb b b refl)) (rw (ne-eqb a b other, h)) in
-      (order, o, λ link ml x y m. kept x y (rule-link e ml x y m), turned)
+  -- some linear extension puts b before a
+  abbrev Extends : ℕ → ℕ → Type 0
+  Extends b a = (order : List ℕ) × LinearExtension e order × (before order b a ≡ true)
 
-  no-mark : (a b : ℕ) → a < n → b < n → MayTurn e a b → chainMark n links a b ≡ 0
-  no-mark a b la lb (order, o, keeps, turned) =
+  not-bound : (a b : ℕ) → b < n → (a ≡ b → ⊥) → chainMark n links a b ≡ 0 → Extends b a
+  unfolding leadsTo
+  not-bound a b l other h =
+      let (order, o, kept, turned) = extension links (rankAt e c) (rank-rises e c) n (links-within e (linked e) (c .consecutive)) a b l
+      (leadsTo b) (leads-back b l) (rw (eq-eqb b b refl)) (rw (ne-eqb a b other, h)) in
+      (order, (o, λ link ml x y m. kept x y (rule-link e ml x y m)), turned)
+
+  no-mark : (a b : ℕ) → a < n → b < n → Extends b a → chainMark n links a b ≡ 0
+  no-mark a b la lb (order, (o, keeps), turned) =
       ⊎-elim (λ h. h)
       (λ h. clash (path-kept e order keeps (chain-marks-are-paths e c a b la lb .0 h)) (before-not-after order b a turned))
       (zero-or-one a b)
@@ -85,7 +89,7 @@ module _ (bytes table : List ℕ) (e : Execution) (rest : List ℕ) (read : read
             path-kept e order (legal-keeps bytes e rest read order k) (chain-marks-are-paths e c a b la lb .0 (sym (left a b la lb) ∙ h));
         diagonal = λ a l. left a a l l ∙ diagonal e c a l;
         nothing-missing = λ a b la lb other. (
-          λ h. may-turn e c a b lb other (sym (left a b la lb) ∙ h),
+          λ h. not-bound e c a b lb other (sym (left a b la lb) ∙ h),
           λ h. left a b la lb ∙ no-mark e c a b la lb h,
         );
       }

@@ -13,7 +13,7 @@ use Rattle.model.specs.Chains.{leads, reachedBy, chainMark, chainMarks}
 use Rattle.model.specs.Calls.{andThen, asks, answerOf, readAll, judgeOrder, judgeCall, Legal, TableReply, tableMarks, tabling, tableReply, tableCall}
 use Rattle.model.specs.Notation.{zeros, recordOf}
 use Rattle.relation_chain_table.specs.Paths.{mark}
-use Rattle.chains_claim.specs.ChainsBind.{MayTurn, Binds}
+use Rattle.chains_claim.specs.ChainsBind.{LinearExtension, Binds}
 use Rattle.chains_claim.specs.ChainsRow.{rowRecord, rowExecution, marksWritten, rowTable, ChainsRow}
 use Rattle.chains_claim.proofs.ChainsBind.{chains-bind}
 
@@ -41,6 +41,6 @@ unfolding marksWritten
 row-bound order h = row-binds .in-every-legal-order 0 2 (rw five (omega arith)) (rw five (omega arith)) (row-mark 0 2) order h
 
 -- some order of all operations that keeps every link has R 3 before RV_1 2
-pub row-turned : MayTurn rowExecution 2 3
+pub row-turned : (order : List ℕ) × LinearExtension rowExecution order × (before order 3 2 ≡ true)
 unfolding marksWritten
 row-turned = row-binds .nothing-missing 2 3 (rw five (omega arith)) (rw five (omega arith)) (λ e. omega arith) .0 (row-mark 2 3)

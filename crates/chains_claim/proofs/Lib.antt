@@ -1,7 +1,7 @@
 -- The laws of this crate, open to the crates above it.
 pub mod Rules
 pub mod Ranks
-pub mod Legals
-pub mod Cut
+pub mod LegalOrders
+pub mod Extensions
 pub mod ChainsBind
 pub mod ChainsRow

@@ -15,7 +15,7 @@ use Rattle.chains_claim.specs.ChainsBind.{linkRules}
 
 -- facts one after the other
 infixr 5 _also_
-pub _also_ : {A B : Type 0} → A → B → A × B
+_also_ : {A B : Type 0} → A → B → A × B
 _also_ a b = (a, b)
 
 module _ (e : Execution) where

@@ -22,9 +22,9 @@ KeepsLinks e order =
     (link : Operation → Operation → Bool) → List·Memᴰ link (linkRules e)
     → (a b : ℕ) → List·Memᴰ (a ≺ b) (linksOf e link) → before order a b ≡ true
 
--- some order of all the operations keeps every link and puts b before a
-abbrev pub MayTurn : Execution → ℕ → ℕ → Type 0
-MayTurn e a b = (order : List ℕ) × OrderOf (operations e) order × KeepsLinks e order × (before order b a ≡ true)
+-- a linear extension of the links: an order of all the operations that keeps every link
+abbrev pub LinearExtension : Execution → List ℕ → Type 0
+LinearExtension e order = OrderOf (operations e) order × KeepsLinks e order
 
 -- What the marks of a table say of the orders of a record that holds the execution e. Operations a and b are given by number, below N.
 pub record Binds (bytes : List ℕ) (e : Execution) (table : List ℕ) : Type 0 where
@@ -39,7 +39,7 @@ pub record Binds (bytes : List ℕ) (e : Execution) (table : List ℕ) : Type 0 
   -- Nothing is missing: where a and b differ, mark (a, b) is 0 exactly where some order of all the operations keeps every link and puts b before a.
   -- (The converse, which P5 does not ask for: nor is a mark of 1 too many.)
   pub nothing-missing : (a b : ℕ) → a < operations e → b < operations e → (a ≡ b → ⊥)
-      → (mark (operations e) table a b ≡ 0) ↔ MayTurn e a b
+      → (mark (operations e) table a b ≡ 0) ↔ ((order : List ℕ) × LinearExtension e order × (before order b a ≡ true))
 
 -- For every accepted record, and every table with room for its marks (question 22): the call answers done, and the marks that it leaves there bind the orders.
 abbrev pub ChainsBind : Type 0

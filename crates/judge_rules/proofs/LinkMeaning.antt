@@ -17,7 +17,8 @@ use Rattle.relation_places.proofs.PlaceLaws.{before-placed}
 use Rattle.relation_links.specs.declared.operations.Operations.{Operations}
 use Rattle.relation_links.specs.Operations.{operationAt, tableOf}
 use Rattle.relation_links.specs.Links.{linkOf, linkBy}
-use Rattle.relation_links.proofs.LinkLaws.{operation-role, link-means}
+use Rattle.model.proofs.Ownership.{operation-role}
+use Rattle.relation_links.proofs.LinkLaws.{link-means}
 use Rattle.relation_links.proofs.CompiledLaws.{operation-there, owner-there}
 use Rattle.judge_rules.specs.Tests.{standsAgainst, linksBroken}
 use Rattle.relation_links.specs.Compiled.{CompiledIn}

@@ -6,7 +6,7 @@ use mathlib.Core.Bool.{true}
 use mathlib.Core.List.{List, _∷_, List·Memᴰ, List·Memᴰ·head, List·Memᴰ·tail, Memᴰ·map, Memᴰ·of-map}
 use lib.ListN.{length, getD}
 use Rattle.base.proofs.Bools.{and-parts}
-use Rattle.base.proofs.Lists.{in-keep, of-keep, in-for, in-below, of-below, place-of}
+use Rattle.base.proofs.Lists.{in-keep, of-keep, in-for, of-for, in-below, of-below, place-of}
 use Rattle.model.specs.Execution.{isLoad, isStore, isSemaphore, Instruction, Execution, Role, R, LV, F, RV, roles, numberOf, Operation, operationsOf, allOperations, loads, stores, semaphores, everyProcessor}
 use Rattle.model.specs.Rules.{remoteOf}
 use Rattle.model.specs.Accepted.{Consecutive, Each, Accepted}
@@ -108,6 +108,30 @@ module _ (e : Execution) where
 
   pub RV-in : {w : Instruction} → List·Memᴰ w (stores e) → (q : ℕ) → q < e .processors → List·Memᴰ (operationOf w (RV q)) (allOperations e)
   RV-in {w} m q h = operation-in (is-store m .0) (RV-role (e .processors) (w .kind) q h (is-store m .1))
+
+  -- an operation has a role of its instruction's kind
+  pub operation-role : (a : Operation) → List·Memᴰ a (allOperations e) → List·Memᴰ (a .role) (roles (e .processors) (a .instruction .kind))
+  unfolding allOperations operationsOf
+  operation-role a m =
+      let (i, mi, ma) = of-for (operationsOf (e .processors)) (e .instructions) m in
+      let (r, mr, h) = Memᴰ·of-map _ (roles (e .processors) (i .kind)) ma in
+      subst (λ (o : Operation). List·Memᴰ (o .role) (roles (e .processors) (o .instruction .kind))) h mr
+
+  -- an operation has the number of its instruction's role
+  pub operation-number : (a : Operation) → List·Memᴰ a (allOperations e) → a .number ≡ numberOf (a .instruction) (a .role)
+  unfolding allOperations operationsOf
+  operation-number a m =
+      let (i, mi, ma) = of-for (operationsOf (e .processors)) (e .instructions) m in
+      let (r, mr, h) = Memᴰ·of-map _ (roles (e .processors) (i .kind)) ma in
+      subst (λ (o : Operation). o .number ≡ numberOf (o .instruction) (o .role)) h refl
+
+  -- an operation is of an instruction of the execution
+  pub operation-of : (a : Operation) → List·Memᴰ a (allOperations e) → List·Memᴰ (a .instruction) (e .instructions)
+  unfolding allOperations operationsOf
+  operation-of a m =
+      let (i, mi, ma) = of-for (operationsOf (e .processors)) (e .instructions) m in
+      let (r, mr, h) = Memᴰ·of-map _ (roles (e .processors) (i .kind)) ma in
+      subst (λ (o : Operation). List·Memᴰ (o .instruction) (e .instructions)) h mi
 
   module _ (accepted : Accepted e) where
     -- the processor of an instruction is one of them

@@ -17,7 +17,7 @@ use Rattle.relation_links.specs.declared.operations.Operations.{Operatio
 use Rattle.relation_marks.specs.Marks.{marksBetween, markAt}
 use Rattle.relation_links.specs.Operations.{operationAt, tableOf, Tabled}
 use Rattle.relation_links.specs.Compiled.{CompiledIn}
-use Rattle.relation_links.proofs.LinkLaws.{operation-of, operation-role, operation-number}
+use Rattle.model.proofs.Ownership.{operation-of, operation-role, operation-number}
 
 module _ {bytes : List ℕ} {x : Execution} {t : Operations} {marks : List (List ℕ)} (h : CompiledIn bytes x t marks) where
   -- operation o of the table is one of the execution

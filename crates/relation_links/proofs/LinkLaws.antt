@@ -2,48 +2,24 @@
 use Prim.Native.Nat.{ℕ, zero, suc, _^_, _≤_, _<_}
 use native.Mathlib.Omega.{arith}
 use native.Mathlib.Decide.{decLt}
-use mathlib.Core.Path.{_≡_, refl, sym, ap, ap₂, _∙_, subst}
+use mathlib.Core.Path.{_≡_, refl, sym, ap, ap₂, _∙_}
 use mathlib.Core.Bool.{Bool, true, false, not, _&&_, _||_, and-true, and-false, and-assoc, or-true, or-false}
-use mathlib.Core.List.{List·Memᴰ, Memᴰ·of-map}
+use mathlib.Core.List.{List·Memᴰ}
 use lib.ListN.{getD, List·getD-eq-default}
 use lib.Dec.{eqb}
 use borrow.Author.Tests.{eqb-true}
 use Rattle.base.specs.Below.{anyBelow}
-use Rattle.base.proofs.Lists.{of-for}
 use Rattle.base.proofs.Bits.{bit-packed}
-use Rattle.model.specs.Execution.{Kind, isLoad, isStore, isAcquire, isFence, isRelease, Instruction, Execution, Role, R, LV, F, RV, roles, numberOf, Operation, operationsOf, allOperations, hasRoleR, hasRoleLV, hasRoleF, hasRoleRV}
+use Rattle.model.specs.Execution.{Kind, isLoad, isStore, isAcquire, isFence, isRelease, Instruction, Execution, Role, R, LV, F, RV, roles, Operation, allOperations, hasRoleR, hasRoleLV, hasRoleF, hasRoleRV}
 use Rattle.model.specs.Rules.{sameVisibility, earlier, link1, link2, link3, link4, link5, link6, link7, paired, link8, link13, link15, linked}
 use Rattle.model.proofs.Roles.{of-roles, R-load, LV-store, RV-store, load-no-fence, store-no-fence}
 use Rattle.model.specs.Accepted.{Consecutive}
 use Rattle.model.proofs.Numbers.{one-numbered}
+use Rattle.model.proofs.Ownership.{operation-of}
 use Rattle.model.proofs.ProgramOrder.{marks-rule2, marks-rule3, marks-rule4}
 use Rattle.relation_marks.specs.Marks.{hasMark, earlierOf, givenPair, marksOf, marksBetween}
 use Rattle.relation_links.specs.Links.{linkOf, ruleMark, endRole, rolesLink, linkBy}
 use Rattle.relation_links.proofs.RoleLaws.{roles-past}
-
--- an operation has a role of its instruction's kind
-pub operation-role : (e : Execution) (a : Operation) → List·Memᴰ a (allOperations e) → List·Memᴰ (a .role) (roles (e .processors) (a .instruction .kind))
-unfolding allOperations operationsOf
-operation-role e a m =
-    let (i, mi, ma) = of-for (operationsOf (e .processors)) (e .instructions) m in
-    let (r, mr, h) = Memᴰ·of-map _ (roles (e .processors) (i .kind)) ma in
-    subst (λ (o : Operation). List·Memᴰ (o .role) (roles (e .processors) (o .instruction .kind))) h mr
-
--- an operation has the number of its instruction's role
-pub operation-number : (e : Execution) (a : Operation) → List·Memᴰ a (allOperations e) → a .number ≡ numberOf (a .instruction) (a .role)
-unfolding allOperations operationsOf
-operation-number e a m =
-    let (i, mi, ma) = of-for (operationsOf (e .processors)) (e .instructions) m in
-    let (r, mr, h) = Memᴰ·of-map _ (roles (e .processors) (i .kind)) ma in
-    subst (λ (o : Operation). o .number ≡ numberOf (o .instruction) (o .role)) h refl
-
--- an operation is of an instruction of the execution
-pub operation-of : (e : Execution) (a : Operation) → List·Memᴰ a (allOperations e) → List·Memᴰ (a .instruction) (e .instructions)
-unfolding allOperations operationsOf
-operation-of e a m =
-    let (i, mi, ma) = of-for (operationsOf (e .processors)) (e .instructions) m in
-    let (r, mr, h) = Memᴰ·of-map _ (roles (e .processors) (i .kind)) ma in
-    subst (λ (o : Operation). List·Memᴰ (o .instruction) (e .instructions)) h mi
 
 -- operations of one instruction number are of one processor
 pub operation-processor : (e : Execution) → Consecutive (e .processors) 0 0 (e .instructions) → (a b : Operation) → List·Memᴰ a (allOperations e) → List·Memᴰ b (allOperations e)

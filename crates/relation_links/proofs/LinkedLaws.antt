@@ -19,7 +19,8 @@ use Rattle.relation_links.specs.declared.operations.Operations.{Operatio
 use Rattle.relation_links.specs.Operations.{operationAt}
 use Rattle.relation_links.specs.Compiled.{CompiledIn}
 use Rattle.relation_links.specs.Links.{ruleMark, rolesLink, linkBy}
-use Rattle.relation_links.proofs.LinkLaws.{operation-role, operation-processor, link-means, linked-by}
+use Rattle.model.proofs.Ownership.{operation-role}
+use Rattle.relation_links.proofs.LinkLaws.{operation-processor, link-means, linked-by}
 use Rattle.relation_links.proofs.CompiledLaws.{operation-there, owner-there}
 use Rattle.relation_links.specs.Linked.{linkedBy, linkedAt}
 

@@ -15,7 +15,7 @@ use Rattle.base.proofs.Tests.{any-passes, some-at}
 use Rattle.model.specs.Execution as model
 use Rattle.model.specs.Execution.{kindOf, Role, F, roles, numberOf, Operation, operationsOf, allOperations}
 use Rattle.model.proofs.Numbers.{role-number}
-use Rattle.model.proofs.Ownership.{operationOf}
+use Rattle.model.proofs.Ownership.{operationOf, operation-role, operation-number}
 use Rattle.record_decoded.specs.Kinds.{roleNumbered}
 use Rattle.record_decoded.specs.declared.types.Execution.{Execution}
 use Rattle.record_decoded.specs.Decoded.{instructionAt, instructionsOf, executionOf}
@@ -24,7 +24,6 @@ use Rattle.relation_links.specs.declared.operations.Operations.{Operations}
 use Rattle.relation_links.specs.Operations.{operationAt, tableOf}
 use Rattle.relation_links.specs.Compiled.{CompiledIn}
 use Rattle.relation_links.specs.Linked.{linkedBy, linkedAt}
-use Rattle.relation_links.proofs.LinkLaws.{operation-role, operation-number}
 use Rattle.relation_links.proofs.CompiledLaws.{operation-there, owner-there}
 use Rattle.search_constraints.specs.Rows.{linkedFrom, linkedOf}
 

@@ -16,14 +16,13 @@ use Rattle.model.specs.Execution as model
 use Rattle.model.specs.Execution.{Kind, isStore, isRelease, Instruction, Role, R, LV, F, RV, roles, numberOf, stores, everyProcessor}
 use Rattle.model.specs.Rules.{inWB, remoteOf}
 use Rattle.model.specs.Accepted.{Accepted}
-use Rattle.model.proofs.Ownership.{RV-of, RV-in, one-owner, processor-in}
+use Rattle.model.proofs.Ownership.{RV-of, RV-in, operation-role, one-owner, processor-in}
 use Rattle.record_decoded.specs.Kinds.{roleNumbered}
 use Rattle.record_decoded.specs.declared.types.Execution.{Execution}
 use Rattle.record_decoded.specs.Decoded.{instructionAt, executionOf}
 use Rattle.relation_marks.specs.Marks.{hasMark, markAt, marksOf, marksBetween}
 use Rattle.relation_links.specs.declared.operations.Operations.{Operations}
 use Rattle.relation_links.specs.Compiled.{CompiledIn}
-use Rattle.relation_links.proofs.LinkLaws.{operation-role}
 use Rattle.relation_links.proofs.CompiledLaws.{owner-there, owner-in, role-in, number-is}
 use Rattle.model.proofs.Numbers.{before-remotes}
 use Rattle.model.proofs.Roles.{RV-few}

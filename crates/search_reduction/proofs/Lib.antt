@@ -5,5 +5,6 @@ pub mod Links
 pub mod Stores
 pub mod Releases
 pub mod Loads
+pub mod Ranks
 pub mod Itself
 pub mod Reduction

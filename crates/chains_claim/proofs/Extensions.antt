@@ -1,4 +1,4 @@
--- Links along which a rank rises: where no path leads from a to b, some order of all keeps every link and puts b before a.
+-- Links along which a rank rises: where no path leads from a to b, a linear extension puts b before a.
 use Prim.Native.Nat.{ℕ, suc, _+_, _<_}
 use native.Mathlib.Omega.{arith}
 use mathlib.Core.Path.{_≡_, refl, sym, ap}
@@ -58,5 +58,5 @@ module _ (links : List Link) (rank : ℕ → ℕ) (rises : (x y : ℕ) → List�
     unfolding key
     turned-key = rw (b-among, a-apart) (omega arith)
 
-    pub cut : (order : List ℕ) × OrderOf n order × ((x y : ℕ) → List·Memᴰ (x, y) links → before order x y ≡ true) × (before order b a ≡ true)
-    cut = let (order, o, f) = by-key n key in (order, o, λ x y m. f x y (within x y m .0) (link-key x y m), f b a b-below turned-key)
+    pub extension : (order : List ℕ) × OrderOf n order × ((x y : ℕ) → List·Memᴰ (x, y) links → before order x y ≡ true) × (before order b a ≡ true)
+    extension = let (order, o, f) = by-key n key in (order, o, λ x y m. f x y (within x y m .0) (link-key x y m), f b a b-below turned-key)
