@@ -1,13 +1,14 @@
--- The lexicographic order is strict and total, and how it goes with appended lists.
+-- The lexicographic order is strict and total, how it goes with appended lists, and the least of some lists.
 use Prim.Native.Nat.{ℕ, _<_}
 use native.Mathlib.Omega.{arith}
-use mathlib.Core.Path.{_≡_, refl, sym}
-use mathlib.Core.Bool.{Bool, true, false, _&&_, _||_, or-true, false≢true}
-use mathlib.Core.List.{List, [], _∷_, _++_}
-use mathlib.Core.Logic.{_⊎_, inl, inr}
+use mathlib.Core.Path.{_≡_, refl, sym, subst}
+use mathlib.Core.Bool.{Bool, true, false, cond, _&&_, _||_, or-true, false≢true}
+use mathlib.Core.List.{List, [], _∷_, _++_, List·Memᴰ, List·Memᴰ·head, List·Memᴰ·tail, List·Memᴰ·cases-cons, List·Memᴰ·eq-of-singleton}
+use mathlib.Core.Logic.{_⊎_, inl, inr, ⊎-elim}
 use lib.Dec.{eqb, ltb}
 use borrow.Author.Tests.{lt-ltb, eq-eqb, ltb-true, ltb-false, eqb-true}
-use Rattle.base.specs.Lex.{lexLess, Less}
+use Rattle.base.specs.Lex.{lexLess, Less, least}
+use Rattle.base.proofs.Bools.{clash}
 
 -- the two ways to be less at the heads
 pub less-cases : {C : Type 0} (x y : ℕ) (xs ys : List ℕ) → Less (x ∷ xs) (y ∷ ys) → (x < y → C) → (x ≡ y → Less xs ys → C) → C
@@ -79,3 +80,35 @@ less-extension (x ∷ xs) o w = less-tail x x xs (xs ++ o ∷ w) refl (less-exte
 pub less-fork : (xs : List ℕ) (o p : ℕ) (v w : List ℕ) → o < p → Less (xs ++ o ∷ v) (xs ++ p ∷ w)
 less-fork [] o p v w h = less-head o p v w h
 less-fork (x ∷ xs) o p v w h = less-tail x x (xs ++ o ∷ v) (xs ++ p ∷ w) refl (less-fork xs o p v w h)
+
+-- the first list is the second, or less
+abbrev pub AtMost : List ℕ → List ℕ → Type 0
+AtMost xs ys = (xs ≡ ys) ⊎ Less xs ys
+
+pub most-both : (xs ys : List ℕ) → AtMost xs ys → AtMost ys xs → xs ≡ ys
+most-both xs ys h k = ⊎-elim (λ e. e) (λ l. ⊎-elim sym (λ m. absurd (less-asymmetric xs ys l m)) k) h
+
+pub not-less : (xs ys : List ℕ) → lexLess ys xs ≡ false → AtMost xs ys
+not-less xs ys h = ⊎-elim inr (λ t. ⊎-elim inl (λ l. clash l h) t) (less-total xs ys)
+
+most-transitive : (xs ys zs : List ℕ) → AtMost xs ys → AtMost ys zs → AtMost xs zs
+most-transitive xs ys zs (inl e) k = subst (λ (l : List ℕ). AtMost l zs) (sym e) k
+most-transitive xs ys zs (inr l) (inl e) = inr (subst (Less xs) e l)
+most-transitive xs ys zs (inr l) (inr m) = inr (less-transitive xs ys zs l m)
+
+-- the least of some lists is one of them, and at most each
+pub least-is : (x : List ℕ) (l : List (List ℕ)) → List·Memᴰ (least (x ∷ l)) (x ∷ l) × ((y : List ℕ) → List·Memᴰ y (x ∷ l) → AtMost (least (x ∷ l)) y)
+unfolding least
+least-is x [] = (List·Memᴰ·head refl, λ y m. inl (sym (List·Memᴰ·eq-of-singleton m)))
+least-is x (z ∷ l) = go (lexLess (least (z ∷ l)) x) refl (least-is z l)
+  where
+    go : (b : Bool) → lexLess (least (z ∷ l)) x ≡ b → List·Memᴰ (least (z ∷ l)) (z ∷ l) × ((y : List ℕ) → List·Memᴰ y (z ∷ l) → AtMost (least (z ∷ l)) y)
+        → List·Memᴰ (cond b (least (z ∷ l)) x) (x ∷ z ∷ l) × ((y : List ℕ) → List·Memᴰ y (x ∷ z ∷ l) → AtMost (cond b (least (z ∷ l)) x) y)
+    go true h (m, low) = (
+      List·Memᴰ·tail m,
+      λ y w. ⊎-elim (λ e. inr (subst (Less (least (z ∷ l))) (sym e) h)) (low y) (List·Memᴰ·cases-cons w),
+    )
+    go false h (m, low) = (
+      List·Memᴰ·head refl,
+      λ y w. ⊎-elim (λ e. inl (sym e)) (λ k. most-transitive x (least (z ∷ l)) y (not-less x (least (z ∷ l)) h) (low y k)) (List·Memᴰ·cases-cons w),
+    )

@@ -8,3 +8,4 @@ pub mod Copies
 pub mod Bits
 pub mod Entries
 pub mod Orders
+pub mod Permutations

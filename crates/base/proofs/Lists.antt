@@ -10,7 +10,7 @@ use lib.Dec.{eqb, ltb}
 use lib.ListN.{length, getD}
 use lib.Seq.{append-snoc}
 use borrow.Author.Tests.{eq-eqb, eqb-true, ltb-true}
-use Rattle.base.specs.Lists.{all, any, keep, when, for, count, below, member, distinct}
+use Rattle.base.specs.Lists.{all, any, keep, when, for, count, below, member, distinct, same}
 use Rattle.base.proofs.Bools.{clash, is-false, and-parts, and-both}
 
 module _ {A : Type 0} where
@@ -444,3 +444,18 @@ distinct-in n passed (x ∷ xs) {o} h m =
     let (h1, h2) = and-parts (ltb x n && not (member passed x)) (distinct n (passed ++ (x ∷ [])) xs) h in
     ⊎-elim (λ (q : o ≡ x). subst (λ (u : ℕ). u < n) (sym q) (ltb-true x n (and-parts (ltb x n) (not (member passed x)) h1 .0)))
     (λ k. distinct-in n (passed ++ (x ∷ [])) xs h2 k) (List·Memᴰ·cases-cons m)
+
+-- lists that are the same
+pub same-true : (xs ys : List ℕ) → same xs ys ≡ true → xs ≡ ys
+unfolding same
+same-true [] [] h = refl
+same-true [] (y ∷ ys) h = absurd (false≢true h)
+same-true (x ∷ xs) [] h = absurd (false≢true h)
+same-true (x ∷ xs) (y ∷ ys) h =
+    let (p, q) = and-parts (eqb x y) (same xs ys) h in
+    cc (eqb-true x y p, same-true xs ys q)
+
+pub same-itself : (xs : List ℕ) → same xs xs ≡ true
+unfolding same
+same-itself [] = refl
+same-itself (x ∷ xs) = and-both (eq-eqb x x refl) (same-itself xs)

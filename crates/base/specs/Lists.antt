@@ -45,6 +45,13 @@ unfoldable pub member : List ℕ → ℕ → Bool
 member [] a = false
 member (x ∷ xs) a = eqb x a || member xs a
 
+-- the lists are the same
+unfoldable pub same : List ℕ → List ℕ → Bool
+same [] [] = true
+same [] (y ∷ ys) = false
+same (x ∷ xs) [] = false
+same (x ∷ xs) (y ∷ ys) = eqb x y && same xs ys
+
 -- each element is below n, different from those of `passed`, and different from those before it
 unfoldable pub distinct : ℕ → List ℕ → List ℕ → Bool
 distinct n passed [] = true

@@ -8,6 +8,7 @@ use Rattle.model.specs.Calls as calls
 use Rattle.capi.specs.declared.SearchReply.{SearchReply}
 use Rattle.capi.specs.declared.RecordReply.{RecordReply}
 use Rattle.model.specs.Calls.{Answer, says, refuses, Judgement, legal, breaks, Done, done}
+use Rattle.model.specs.Renumbering.{Comparison, equal, leftFirst, rightFirst, HandedBack, leftRecord, rightRecord, emptyPart}
 
 -- 0 for a record that is accepted
 abbrev pub checkNumber : Answer Execution → ℕ
@@ -31,6 +32,19 @@ searchNumber (says unfinished) = 0
 searchNumber (says allowed) = 1
 searchNumber (says forbidden) = 2
 searchNumber (refuses q) = 256 + q
+
+-- 0 equal, 1 the left record stands first, 2 the right one
+abbrev pub compareNumber : Answer Comparison → ℕ
+compareNumber (says equal) = 0
+compareNumber (says leftFirst) = 1
+compareNumber (says rightFirst) = 2
+compareNumber (refuses q) = 256 + q
+
+-- 0 the empty part of the left record, 1 the left record, 2 the right one
+abbrev pub handedNumber : HandedBack → ℕ
+handedNumber emptyPart = 0
+handedNumber leftRecord = 1
+handedNumber rightRecord = 2
 
 -- the reply as numbers, and the buffer as it is left
 pub record Searched (call : calls.SearchReply) (r : SearchReply) (buffer : List ℕ) : Type 0 where

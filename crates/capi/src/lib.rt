@@ -5,9 +5,12 @@ ghost use Prim.Native.Nat.{ℕ};
 ghost use Rattle.model.specs.Calls.{readAll, judgeCall, tableCall, searchCall};
 ghost use Rattle.model.specs.Sections.{sectionsFrom, writeCall};
 ghost use Rattle.model.specs.SolversCopy.{solversCopyCall};
+ghost use Rattle.model.specs.Renumbering.{compareCall, standsFirst};
 ghost use Rattle.record_writer.specs.Replies.{replyOf};
-ghost use Rattle.capi.specs.Numbers.{checkNumber, judgeNumber, doneNumber, Searched, Recorded};
+ghost use Rattle.capi.specs.Numbers.{checkNumber, judgeNumber, doneNumber, compareNumber, handedNumber, Searched, Recorded};
 use judge_call::Judgement;
+use record_compare::Compared;
+use record_compare::HandedBack;
 use record_reader::reader::Answer;
 use record_writer::WriteAnswer;
 use record_writer::WriteReply;
@@ -143,4 +146,31 @@ pub extern "C" fn oglindesh_solvers_copy(bytes: &[u8], buffer: &mut [u8]) -> Rec
 {
     let written = record_solvers_copy::solvers_copy(bytes, buffer);
     reply_of(written)
+}
+
+// Compares two records: 0 equal, 1 the left one stands first, 2 the right one; 256 + the first question that fails, of the left one, else of the right one.
+#[no_mangle]
+pub extern "C" fn oglindesh_compare(left: &[u8], right: &[u8]) -> u32
+    ensures { λ r. ⌜ r ≡ compareNumber (compareCall (now (left .entry)) (now (right .entry))) ⌝ }
+{
+    let compared = record_compare::compare(left, right);
+    match compared {
+        Compared::Equal => 0,
+        Compared::LeftFirst => 1,
+        Compared::RightFirst => 2,
+        Compared::Refused(q) => 256 + q as u32,
+    }
+}
+
+// Which of two records is handed back: 1 the left one, 2 the right one; 0 the empty part of the left one, where either is refused.
+#[no_mangle]
+pub extern "C" fn oglindesh_first(left: &[u8], right: &[u8]) -> u32
+    ensures { λ r. ⌜ r ≡ handedNumber (standsFirst (compareCall (now (left .entry)) (now (right .entry)))) ⌝ }
+{
+    let handed = record_compare::stands_first(left, right);
+    match handed {
+        HandedBack::Left => 1,
+        HandedBack::Right => 2,
+        HandedBack::Empty => 0,
+    }
 }

@@ -60,7 +60,7 @@ item-length n bytes x r h = let (enough, z, _) = item-came n bytes x r h in ap l
 -- what each value that is read keeps, all of them keep
 module _ {A : Type 0} (read : List A → Reader A) (Inv : List A → Type 0)
     (keeps : (done : List A) (bytes : List ℕ) (a : A) (r : List ℕ) → Inv done → read done bytes ≡ found a r → Inv (done ++ (a ∷ []))) where
-  many-keeps : (n : ℕ) (done : List A) (bytes : List ℕ) (out : List A) (r : List ℕ) → Inv done → many read n done bytes ≡ found out r → Inv out
+  pub many-keeps : (n : ℕ) (done : List A) (bytes : List ℕ) (out : List A) (r : List ℕ) → Inv done → many read n done bytes ≡ found out r → Inv out
   unfolding many
   many-keeps zero done bytes out r i h = let z : done ≡ out = cc in subst Inv z i
   many-keeps (suc n) done bytes out r i h =

@@ -11,6 +11,7 @@ pub mod Courses
 pub mod Verdict
 pub mod Sections
 pub mod SolversCopy
+pub mod Renumbering
 pub mod Notation
 pub mod Claims
 pub mod Rows

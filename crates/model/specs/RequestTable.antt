@@ -1,9 +1,9 @@
 -- For each request of document 02 that has landed, calls and what they must answer.
-use Prim.Native.Nat.{ℕ, _*_}
+use Prim.Native.Nat.{ℕ, _*_, _/_}
 use mathlib.Core.Bool.{true}
 use mathlib.Core.List.{List, [], _∷_, _++_}
 use mathlib.Core.Option.{some}
-use lib.ListN.{replicate}
+use lib.ListN.{length, replicate}
 use Rattle.base.specs.Lists.{for, count}
 use Rattle.model.specs.Search.{allowed, forbidden}
 use Rattle.model.specs.Calls.{says, legal, breaks}
@@ -12,7 +12,8 @@ use Rattle.model.specs.Verdict.{wordAllowed, wordSteps}
 use Rattle.model.specs.Notation.{x, y, wb, uc, uc-of, ld, st, st-rel, mf, sem-acq, sem-rel, ld16, st16, st16-rel, zeros, recordOf}
 use Rattle.model.specs.RuleTable.{one, one-pair, two}
 use Rattle.model.specs.Sections.{Sections, sectionsFrom}
-use Rattle.model.specs.Rows.{Row, lent, judged, searched, tabled, printed, followed, composed, composed-no, copied, copied-no}
+use Rattle.model.specs.Renumbering.{equal, leftFirst, rightFirst}
+use Rattle.model.specs.Rows.{Row, lent, judged, searched, tabled, printed, followed, composed, composed-no, copied, copied-no, compared, compared-no}
 
 -- P2: two processors, and nothing in their programs
 unfoldable pub nothing : List ℕ
@@ -33,6 +34,32 @@ ld-two low high = 0 ∷ 12 ∷ 2 ∷ low ∷ high ∷ replicate 6 0
 -- P3: one program on a WB line
 abbrev alone : List (List ℕ) → List ℕ
 alone program = recordOf (wb ∷ []) (program ∷ []) []
+
+-- P9: a store of one processor, two loads of the other, the second of which depends on the first; under both numberings
+abbrev reader : List (List ℕ)
+reader = ld x 1 ∷ ld x 0 ∷ []
+
+abbrev writer-reader : List ℕ
+writer-reader = recordOf (wb ∷ []) ((st x 1 ∷ []) ∷ reader ∷ []) ((1, 2) ∷ [])
+
+abbrev reader-writer : List ℕ
+reader-writer = recordOf (wb ∷ []) (reader ∷ (st x 1 ∷ []) ∷ []) ((0, 1) ∷ [])
+
+-- two processors with two loads each, of which the first saw 1 and 2
+abbrev two-readers : List (ℕ × ℕ) → List ℕ
+two-readers pairs = recordOf (wb ∷ []) (reader ∷ (ld x 2 ∷ ld x 0 ∷ []) ∷ []) pairs
+
+-- one instruction on these lines
+abbrev on-lines : List (List ℕ) → List ℕ → List ℕ
+on-lines lines i = recordOf lines ((i ∷ []) ∷ []) []
+
+-- three processors with an instruction each
+abbrev three : List ℕ → List ℕ → List ℕ → List ℕ
+three i j k = recordOf (wb ∷ []) ((i ∷ []) ∷ (j ∷ []) ∷ (k ∷ []) ∷ []) []
+
+-- two processors with the same three loads, and these pairs, by their bytes
+abbrev alike-readers : List ℕ → List ℕ
+alike-readers pairs = 2 ∷ 1 ∷ wb ++ for (replicate 2 (replicate 3 (ld x 0))) (λ p. 3 ∷ for p (λ i. i)) ++ (length pairs / 2 ∷ pairs)
 
 -- P7: a store to the upper half and one to the lower half of a load of sixteen bytes, one of them of the load's processor
 abbrev halves : ℕ → ℕ → List ℕ
@@ -226,4 +253,28 @@ requestTable =
     -- P12: the record's questions, then 25
     ∷ copied-no nothing (replicate 13 5) 25
     ∷ copied-no (9 ∷ []) [] 2
+    -- P9: programs under other numbers, their pairs carried along; the left one is handed back. A pair more, and it is another record
+    ∷ compared writer-reader reader-writer equal writer-reader
+    ∷ compared (recordOf (wb ∷ []) ((st x 1 ∷ []) ∷ reader ∷ []) []) reader-writer leftFirst (recordOf (wb ∷ []) ((st x 1 ∷ []) ∷ reader ∷ []) [])
+    -- P9: the same pair of numbers within its program, of one program and of the other
+    ∷ compared (two-readers ((0, 1) ∷ [])) (two-readers ((2, 3) ∷ [])) leftFirst (two-readers ((0, 1) ∷ []))
+    -- P9: attribute and initial bytes of a line that no access touches do not count, the number of lines does; an mf touches none, sixteen bytes two
+    ∷ compared (on-lines (wb ∷ uc ∷ []) (ld x 0)) (on-lines (wb ∷ (0 ∷ count 1 8) ∷ []) (ld x 0)) equal (on-lines (wb ∷ uc ∷ []) (ld x 0))
+    ∷ compared (on-lines (wb ∷ uc ∷ []) (ld x 0)) (on-lines (wb ∷ []) (ld x 0)) rightFirst (on-lines (wb ∷ []) (ld x 0))
+    ∷ compared (on-lines (uc ∷ []) mf) (on-lines (wb ∷ []) mf) equal (on-lines (uc ∷ []) mf)
+    ∷ compared (on-lines (uc ∷ []) (ld x 0)) (on-lines (wb ∷ []) (ld x 0)) rightFirst (on-lines (wb ∷ []) (ld x 0))
+    ∷ compared (on-lines (wb ∷ (0 ∷ count 1 8) ∷ []) (ld16 x 0 0)) (on-lines (wb ∷ wb ∷ []) (ld16 x 0 0)) rightFirst (on-lines (wb ∷ wb ∷ []) (ld16 x 0 0))
+    ∷ compared (on-lines (uc ∷ []) (st x 1)) (on-lines (wb ∷ []) (st x 1)) rightFirst (on-lines (wb ∷ []) (st x 1))
+    ∷ compared (on-lines (wb ∷ []) (sem-acq x 0 1)) (on-lines ((0 ∷ count 1 8) ∷ []) (sem-acq x 0 1)) leftFirst (on-lines (wb ∷ []) (sem-acq x 0 1))
+    -- P9: the order is that of the smallest forms. As they are written, the left one of these stands behind the right one
+    ∷ compared (three (ld x 2) (ld x 1) (ld x 0)) (three (ld x 0) (ld x 3) (ld x 1)) leftFirst (three (ld x 2) (ld x 1) (ld x 0))
+    -- P9: of equal programs the one with the longer list of pairs comes first, where the other list begins it
+    ∷ compared (alike-readers (1 ∷ 2 ∷ [])) (alike-readers (4 ∷ 5 ∷ [])) equal (alike-readers (1 ∷ 2 ∷ []))
+    ∷ compared (alike-readers (0 ∷ 2 ∷ 1 ∷ 2 ∷ 3 ∷ 5 ∷ [])) (alike-readers (0 ∷ 2 ∷ 3 ∷ 5 ∷ 4 ∷ 5 ∷ [])) equal (alike-readers (0 ∷ 2 ∷ 1 ∷ 2 ∷ 3 ∷ 5 ∷ []))
+    ∷ compared (alike-readers (0 ∷ 2 ∷ 3 ∷ 5 ∷ 4 ∷ 5 ∷ [])) (alike-readers (0 ∷ 2 ∷ 3 ∷ 4 ∷ 4 ∷ 5 ∷ [])) rightFirst (alike-readers (0 ∷ 2 ∷ 3 ∷ 4 ∷ 4 ∷ 5 ∷ []))
+    ∷ compared (alike-readers (0 ∷ 2 ∷ 3 ∷ 5 ∷ 4 ∷ 5 ∷ [])) (alike-readers (0 ∷ 2 ∷ 1 ∷ 2 ∷ 4 ∷ 5 ∷ [])) leftFirst (alike-readers (0 ∷ 2 ∷ 3 ∷ 5 ∷ 4 ∷ 5 ∷ []))
+    -- P9: the left record's question, else the right one's; the empty part is handed back
+    ∷ compared-no (9 ∷ []) [] 2
+    ∷ compared-no nothing (9 ∷ []) 2
+    ∷ compared-no (1 ∷ 9 ∷ []) (9 ∷ []) 3
     ∷ []

@@ -10,6 +10,7 @@ use Rattle.model.specs.Courses.{Call, Course, start, course}
 use Rattle.model.specs.Verdict.{verdictLines}
 use Rattle.model.specs.Sections.{Sections, writeCall}
 use Rattle.model.specs.SolversCopy.{solversCopyCall}
+use Rattle.model.specs.Renumbering.{Comparison, compareCall, firstCall}
 
 -- a buffer to lend, and the same with a position at its front
 abbrev pub lent : List ℕ
@@ -31,6 +32,8 @@ pub data Row : Type 0 where
   composed-no : Sections → List ℕ → ℕ → Row  -- sections and buffer; the question that refuses them
   copied : List ℕ → List ℕ → Row  -- record; its solvers' copy, in a longer buffer
   copied-no : List ℕ → List ℕ → ℕ → Row  -- record and buffer; the question that refuses the copy
+  compared : List ℕ → List ℕ → Comparison → List ℕ → Row  -- two records; how they compare, and the one handed back
+  compared-no : List ℕ → List ℕ → ℕ → Row  -- two records; the question that refuses them
   cut : List ℕ → ℕ → Row  -- record; the question that refuses each shorter part from its start
 
 pub data Result : Type 0 where
@@ -40,6 +43,7 @@ pub data Result : Type 0 where
   output : List ℕ → Result
   followed-to : Course → Result
   recorded : RecordReply → Result
+  compares : Answer Comparison → List ℕ → Result
 
 -- what the call answers
 unfoldable pub made : Row → Result
@@ -55,6 +59,8 @@ made (composed s bytes) = recorded (writeCall s (replicate (length bytes) 7 ++ l
 made (composed-no s buffer q) = recorded (writeCall s buffer)
 made (copied bytes copy) = recorded (solversCopyCall bytes (replicate (length copy) 7 ++ lent))
 made (copied-no bytes buffer q) = recorded (solversCopyCall bytes buffer)
+made (compared left right c first) = compares (compareCall left right) (firstCall left right)
+made (compared-no left right q) = compares (compareCall left right) (firstCall left right)
 made (cut bytes q) = judgements (map (λ n. judgeCall (take n bytes) []) (below (length bytes)))
 
 -- what it must answer
@@ -73,6 +79,8 @@ wanted (composed s bytes) = recorded (record { answer = says done; length = leng
 wanted (composed-no s buffer q) = recorded (record { answer = refuses q; length = 0; buffer = buffer })
 wanted (copied bytes copy) = recorded (record { answer = says done; length = length copy; buffer = copy ++ lent })
 wanted (copied-no bytes buffer q) = recorded (record { answer = refuses q; length = 0; buffer = buffer })
+wanted (compared left right c first) = compares (says c) first
+wanted (compared-no left right q) = compares (refuses q) []
 wanted (cut bytes q) = judgements (replicate (length bytes) (refuses q))
 
 -- every row of a table holds

@@ -14,8 +14,9 @@ use Rattle.base.proofs.Lists.{keep-append, keep-map, for-map, for-same, of-coun
 use Rattle.model.specs.Execution.{Instruction}
 use Rattle.model.specs.Accepted.{Each}
 use Rattle.model.specs.Sections.{entriesOf, isWhole, allWhole, programOf, programBytes, sectionEntry}
+use Rattle.model.specs.Renumbering.{bytesOfProgram}
 use Rattle.record_sections.proofs.Entries.{entries-of}
-use Rattle.record_sections.proofs.Rendered.{Own, OwnFrom, programAs}
+use Rattle.record_sections.proofs.Rendered.{Own, OwnFrom}
 
 -- Lists
 
@@ -78,7 +79,7 @@ module _ (is : List Instruction) (whole : Each (λ i. isWhole (sectionEntry i) �
   section-program q = ap (keep (λ x. eqb (getD x 0 0) q)) section-entries ∙ keep-map (λ x. eqb (getD x 0 0) q) sectionEntry is
 
 -- a program of the section, as the record has it
-pub program-as : (is : List Instruction) → programBytes (map sectionEntry is) ≡ programAs is
+pub program-as : (is : List Instruction) → programBytes (map sectionEntry is) ≡ bytesOfProgram is
 unfolding programBytes
 program-as is = ap₂ (λ (n : ℕ) (l : List ℕ). n ∷ l) (length-map is sectionEntry) (for-map sectionEntry (drop 1) is)
 

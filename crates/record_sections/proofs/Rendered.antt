@@ -15,6 +15,7 @@ use Rattle.model.specs.Execution.{Kind, ld, ld-acq, st, st-rel, mf, sem-acq, se
 use Rattle.model.specs.Accepted.{Each}
 use Rattle.model.specs.Questions.{found, Reader, next, item, byte, ask, many, moreLength, sizesOf, writtenFrom, question4, question6, question7, question8, question9, question13, question26, question27, lineOf, seenOf, wroteOf, instructionOf, readLine, readLines, readInstruction, readProgram, readPrograms, readPair, readPairs}
 use Rattle.model.specs.Sections.{sectionEntryLength, isWhole, lineBytes, padded, dataBytes, entryBytes, sectionEntry, pairBytes}
+use Rattle.model.specs.Renumbering.{bytesOfProgram}
 use Rattle.model.proofs.Accepted.{step, asked, asked-on, byte-came, item-came, data-within}
 use Rattle.model.proofs.Empty.{item-front}
 use Rattle.model.proofs.Uncacheable.{attribute-numbers}
@@ -203,11 +204,14 @@ module _ (processors p : ℕ) (done : List Instruction) (z : List ℕ) (six : qu
       eq-eqb (suc (length z)) (12 + cond (question6 (getD z 0 0) && not (isFence (kindOf (getD z 0 0)))) (moreLength (kindOf (getD z 0 0)) (getD z 2 0)) 0)
       (rw six (omega (arith, long, more-same (kindOf (getD z 0 0)) (getD z 2 0) seven)))
 
--- an instruction of processor p that is a whole entry in its section and in the record
+-- an instruction of processor p that is a whole entry in its section and in the record, is read back from its data bytes, and has zeros past its size
 pub record Own (p : ℕ) (i : Instruction) : Type 0 where
   pub by : i .processor ≡ p
   pub whole : isWhole (sectionEntry i) ≡ true
   pub long : length (entryBytes i) ≡ 11 + moreLength (i .kind) (i .size)
+  pub seen-is : i .seen ≡ seenOf (i .kind) (i .size) (dataBytes i)
+  pub wrote-is : i .wrote ≡ wroteOf (i .kind) (i .size) (dataBytes i)
+  pub nine : question9 (i .size) (dataBytes i) ≡ true
 
 -- all bytes of an entry that passes its questions
 pub record EntryPasses (lines : List Attribute) (z : List ℕ) : Type 0 where
@@ -300,10 +304,14 @@ module _ (processors : ℕ) (lines : List Attribute) (p : ℕ) (done : List Inst
   unfolding instructionOf
   entry-own z e =
       let same = entry-bytes processors p done z (e .six) (e .long) (e .seven) (e .nine) in
+      let data-same = sym (data-bytes processors p done z (e .six) (e .long) (e .seven) (e .nine)) in
       record {
         by = refl;
         whole = ap (λ (l : List ℕ). isWhole (p ∷ l)) same ∙ entry-whole processors p done z (e .six) (e .long) (e .seven) (e .nine) p;
         long = ap length same ∙ e .long;
+        seen-is = ap (seenOf (kindOf (getD z 0 0)) (getD z 2 0)) data-same;
+        wrote-is = ap (wroteOf (kindOf (getD z 0 0)) (getD z 2 0)) data-same;
+        nine = ap (question9 (getD z 2 0)) (sym data-same) ∙ e .nine;
       }
 
   pub instruction-bytes : (bytes : List ℕ) (i : Instruction) (r : List ℕ) → readInstruction processors lines p done bytes ≡ found i r
@@ -381,10 +389,6 @@ pairs-bytes is bytes pairs r h =
     byte-came bytes n b1 e1 ∙ ap (λ (l : List ℕ). n ∷ l) (asked-on 12 _ b1 u2 b2 e2)
     ∙ ap₂ (λ (k : ℕ) (l : List ℕ). k ∷ l) (sym (m .counted) ∙ ap length (sym (m .out-is))) (m .bytes-are ∙ ap (λ (ps : List (ℕ × ℕ)). for ps pairBytes ++ r) (sym (m .out-is)))))
 
--- a program: its count, then its entries
-abbrev pub programAs : List Instruction → List ℕ
-programAs is = length is ∷ for is entryBytes
-
 -- programs of the processors from p on
 abbrev pub OwnFrom : ℕ → List (List Instruction) → Type 0
 OwnFrom p [] = Unit {0}
@@ -395,12 +399,12 @@ pub record Programs (p left : ℕ) (done : List Instruction) (bytes : List ℕ) 
   pub programs : List (List Instruction)
   pub out-is : out ≡ done ++ for programs (λ is. is)
   pub counted : length programs ≡ left
-  pub bytes-are : bytes ≡ for programs programAs ++ r
+  pub bytes-are : bytes ≡ for programs bytesOfProgram ++ r
   pub own : OwnFrom p programs
 
 module _ (processors : ℕ) (lines : List Attribute) where
   pub program-bytes : (p : ℕ) (done : List Instruction) (bytes : List ℕ) (out : List Instruction) (r : List ℕ) → readProgram processors lines p done bytes ≡ found out r
-      → (new : List Instruction) × (out ≡ done ++ new) × (bytes ≡ programAs new ++ r) × Each (Own p) new
+      → (new : List Instruction) × (out ≡ done ++ new) × (bytes ≡ bytesOfProgram new ++ r) × Each (Own p) new
   unfolding readProgram
   program-bytes p done bytes out r h =
       step (byte bytes) _ out r h (λ n b1 e1 h1.
@@ -425,6 +429,6 @@ module _ (processors : ℕ) (lines : List Attribute) where
         programs = new ∷ m .programs;
         out-is = m .out-is ∙ ap (λ (l : List Instruction). l ++ for (m .programs) (λ is. is)) more-is ∙ append-assoc done new (for (m .programs) (λ is. is));
         counted = ap suc (m .counted);
-        bytes-are = here ∙ ap (λ (l : List ℕ). programAs new ++ l) (m .bytes-are) ∙ sym (append-assoc (programAs new) (for (m .programs) programAs) r);
+        bytes-are = here ∙ ap (λ (l : List ℕ). bytesOfProgram new ++ l) (m .bytes-are) ∙ sym (append-assoc (bytesOfProgram new) (for (m .programs) bytesOfProgram) r);
         own = (own, m .own);
       })

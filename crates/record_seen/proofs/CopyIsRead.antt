@@ -18,7 +18,7 @@ use Rattle.model.proofs.Accepted.{step, asked, asked-on, byte-came, read-found,
 use Rattle.record_sections.proofs.Rendered.{lines-bytes}
 use Rattle.record_sections.proofs.Grouping.{length-for}
 use Rattle.record_sections.proofs.Settled.{settled-again, lines-read}
-use Rattle.record_sections.proofs.ReadIsWritten.{ends}
+use Rattle.record_sections.proofs.ReadIsWritten.{ends, eleven-asked, record-walked}
 use Rattle.record_sections.proofs.WrittenIsRead.{said, reply-done}
 use Rattle.model.specs.SolversCopy.{seenPlaces, seenIn, zeroed, copying, solversCopyCall}
 use Rattle.record_seen.specs.SolversClaims.{sawZeros, unseen, CopyIsRead}
@@ -150,11 +150,6 @@ pub record InstructionsAgain (processors : ℕ) (lines : List Attribute) (bytes 
   pub as-long : length (for programs programMask) ≡ length part
   pub again : (s : List ℕ) → readInstructions processors lines (hide (for programs programMask) part ++ s) ≡ found (map sawZeros is) s
 
-eleven-asked : (processors : ℕ) (lines : List Attribute) (bytes : List ℕ) (out : List Instruction) (r : List ℕ) → readPrograms processors lines 0 processors [] bytes ≡ found out r
-    → question11 (operationCount processors out) ≡ true → readInstructions processors lines bytes ≡ found out r
-unfolding readInstructions next ask
-eleven-asked processors lines bytes out r h eleven = rw (h, eleven)
-
 instructions-again : (processors : ℕ) (lines : List Attribute) (bytes : List ℕ) (is : List Instruction) (r : List ℕ) → readInstructions processors lines bytes ≡ found is r
     → InstructionsAgain processors lines bytes is r
 unfolding readInstructions
@@ -190,12 +185,6 @@ hidden-record n p ms lines part rest long as-long =
     (hide-append (replicate (9 * n) false) ms lines (part ++ rest) (length-replicate (9 * n) false ∙ sym long)
     ∙ ap₂ (λ (a b : List ℕ). a ++ b) (hide-none (9 * n) lines)
     (ap (λ (k : List Bool). hide k (part ++ rest)) (sym (append-nil ms)) ∙ hide-append ms [] part rest as-long))
-
-record-walked : (p : ℕ) (lines : List Line) (is : List Instruction) (pairs : List (ℕ × ℕ)) (b2 b3 b4 : List ℕ) → question2 p ≡ true → readLines b2 ≡ found lines b3
-    → readInstructions p (lineAttributes lines) b3 ≡ found is b4 → readPairs is b4 ≡ found pairs []
-    → readRecord (p ∷ b2) ≡ found (record { processors = p; lines = lines; instructions = is; pairs = pairs }) []
-unfolding readRecord next byte ask question15
-record-walked p lines is pairs b2 b3 b4 two h3 h4 h5 = rw (two, h3, h4, h5)
 
 record-again : (bytes : List ℕ) (e : Execution) (rest : List ℕ) → readRecord bytes ≡ found e rest → RecordAgain bytes e
 unfolding readRecord unseen

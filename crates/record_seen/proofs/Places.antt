@@ -15,6 +15,7 @@ use Rattle.model.specs.Execution.{Kind, ld, ld-acq, st, st-rel, mf, sem-acq, se
 use Rattle.model.specs.Accepted.{Each, Consecutive}
 use Rattle.model.specs.Questions.{moreLength}
 use Rattle.model.specs.SolversCopy.{entriesLength, dataPlace, seenLength, seenPlaces, zeroed}
+use Rattle.model.proofs.Accepted.{more-few}
 use Rattle.record_seen.proofs.Hiding.{hide}
 
 -- Places by a mask
@@ -202,6 +203,12 @@ pub entries-length-append : (is js : List Instruction) → entriesLength (is ++ 
 unfolding entriesLength
 entries-length-append [] js = omega arith
 entries-length-append (i ∷ is) js = omega (arith, entries-length-append is js)
+
+-- an instruction has at most 19 bytes
+pub entries-few : (l : List Instruction) → entriesLength l ≤ 19 * length l
+unfolding entriesLength
+entries-few [] = omega arith
+entries-few (i ∷ l) = omega (arith, more-few (i .kind) (i .size), entries-few l)
 
 -- instructions numbered behind those of `before`, each at its place
 numbered-places : (lines processors at n : ℕ) (before is : List Instruction) → n ≡ length before → Consecutive processors at n is

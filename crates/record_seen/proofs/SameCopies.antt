@@ -16,8 +16,9 @@ use Rattle.model.specs.Accepted.{Each}
 use Rattle.model.specs.Calls.{says, andThen, asks, readAll, question25, recordReply}
 use Rattle.model.specs.Sections.{lineBytes, dataBytes, entryBytes, pairBytes}
 use Rattle.model.proofs.Asking.{after-says}
-use Rattle.record_sections.proofs.Rendered.{kind-numbered, Own, OwnFrom, programAs}
+use Rattle.record_sections.proofs.Rendered.{kind-numbered, Own, OwnFrom}
 use Rattle.model.specs.SolversCopy.{seenIn, zeroed, copying, solversCopyCall}
+use Rattle.model.specs.Renumbering.{bytesOfProgram}
 use Rattle.record_seen.specs.SolversClaims.{alikeBut, SameCopies}
 use Rattle.record_seen.proofs.Hiding.{hide, hide-length, hide-append}
 use Rattle.record_seen.proofs.Places.{placesOf, dataMask, data-mask-length, maskOf, programMask, recordMask}
@@ -59,7 +60,7 @@ same-entries p (i ∷ is) (j ∷ js) (o, h) (q, k) l ms u v e =
     (ap₂ (λ (a b : List Bool). false ∷ false ∷ false ∷ (a ++ b)) masks rest, tail)
 
 same-programs : (p : ℕ) (ps qs : List (List Instruction)) → OwnFrom p ps → OwnFrom p qs → length ps ≡ length qs → (u v : List ℕ)
-    → hide (for ps programMask) (for ps programAs ++ u) ≡ hide (for ps programMask) (for qs programAs ++ v)
+    → hide (for ps programMask) (for ps bytesOfProgram ++ u) ≡ hide (for ps programMask) (for qs bytesOfProgram ++ v)
     → for ps programMask ≡ for qs programMask
 unfolding for hide
 same-programs p [] [] h k l u v e = refl
@@ -68,10 +69,10 @@ same-programs p (is ∷ ps) [] h k l u v e = absurd (omega arith)
 same-programs p (is ∷ ps) (js ∷ qs) (o, h) (q, k) l u v e =
     let counts : length is ≡ length js = head-eq-of-cons-eq e in
     let (here, after) =
-    same-entries p is js o q counts (for ps programMask) (for ps programAs ++ u) (for qs programAs ++ v)
-    (sym (ap (hide (for is maskOf ++ for ps programMask)) (append-assoc (for is entryBytes) (for ps programAs) u))
+    same-entries p is js o q counts (for ps programMask) (for ps bytesOfProgram ++ u) (for qs bytesOfProgram ++ v)
+    (sym (ap (hide (for is maskOf ++ for ps programMask)) (append-assoc (for is entryBytes) (for ps bytesOfProgram) u))
     ∙ tail-eq-of-cons-eq e
-    ∙ ap (hide (for is maskOf ++ for ps programMask)) (append-assoc (for js entryBytes) (for qs programAs) v))
+    ∙ ap (hide (for is maskOf ++ for ps programMask)) (append-assoc (for js entryBytes) (for qs bytesOfProgram) v))
     in
     ap₂ (λ (a b : List Bool). false ∷ (a ++ b)) here (same-programs (suc p) ps qs h k (omega arith) u v after)
 

@@ -13,10 +13,11 @@ use Rattle.model.specs.Accepted.{Each, Consecutive}
 use Rattle.model.specs.Calls.{says, readAll}
 use Rattle.model.specs.Sections.{lineBytes, entryBytes, pairBytes}
 use Rattle.model.proofs.Accepted.{read-found, read-accepted}
-use Rattle.record_sections.proofs.Rendered.{Own, OwnFrom, programAs}
+use Rattle.record_sections.proofs.Rendered.{Own, OwnFrom}
 use Rattle.record_sections.proofs.Grouping.{each-map, length-for}
 use Rattle.record_sections.proofs.ReadIsWritten.{Rendered, rendered}
 use Rattle.model.specs.SolversCopy.{seenPlaces, seenIn, zeroed}
+use Rattle.model.specs.Renumbering.{bytesOfProgram}
 use Rattle.record_seen.proofs.Hiding.{hide}
 use Rattle.record_seen.proofs.Places.{placesOf, places-within, zeroed-hidden, data-mask-length, maskOf, programMask, recordMask, ByFrom, seen-places}
 
@@ -33,13 +34,13 @@ entries-as-long p (i ∷ is) (o, h) =
     ∙ (let z : length (maskOf i) + length (for is maskOf) ≡ length (entryBytes i) + length (for is entryBytes) = omega (arith, data-mask-length (i .kind) (i .size), o .long, entries-as-long p is h) in z)
     ∙ sym (length-append (entryBytes i) (for is entryBytes))
 
-programs-as-long : (p : ℕ) (programs : List (List Instruction)) → OwnFrom p programs → length (for programs programMask) ≡ length (for programs programAs)
+programs-as-long : (p : ℕ) (programs : List (List Instruction)) → OwnFrom p programs → length (for programs programMask) ≡ length (for programs bytesOfProgram)
 unfolding for
 programs-as-long p [] h = refl
 programs-as-long p (is ∷ programs) (own, h) =
     length-append (programMask is) (for programs programMask)
-    ∙ (let z : length (programMask is) + length (for programs programMask) ≡ length (programAs is) + length (for programs programAs) = omega (arith, entries-as-long p is own, programs-as-long (suc p) programs h) in z)
-    ∙ sym (length-append (programAs is) (for programs programAs))
+    ∙ (let z : length (programMask is) + length (for programs programMask) ≡ length (bytesOfProgram is) + length (for programs bytesOfProgram) = omega (arith, entries-as-long p is own, programs-as-long (suc p) programs h) in z)
+    ∙ sym (length-append (bytesOfProgram is) (for programs bytesOfProgram))
 
 -- an accepted record
 module _ (bytes : List ℕ) (e : Execution) (h : readAll bytes ≡ says e) where
@@ -58,7 +59,7 @@ module _ (bytes : List ℕ) (e : Execution) (h : readAll bytes ≡ says e) where
   mask-within : 0 + length (recordMask (length (e .lines)) (shape .programs)) ≤ length bytes
   mask-within =
       let masks = for (shape .programs) programMask in
-      let programs = for (shape .programs) programAs in
+      let programs = for (shape .programs) bytesOfProgram in
       let pairs = length (e .pairs) ∷ for (e .pairs) pairBytes in
       omega (
         arith,

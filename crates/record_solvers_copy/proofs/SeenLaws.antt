@@ -1,23 +1,21 @@
 -- A loop that clears what each instruction saw, one instruction after the other.
 use Prim.Native.Nat.{ℕ, _+_, _*_, _≤_, _<_}
 use native.Mathlib.Omega.{arith}
-use native.Mathlib.Numerals.{add-one}
 use mathlib.Core.Path.{_≡_, sym, ap, ap₂, _∙_, subst}
 use mathlib.Core.Bool.{Bool, true}
 use mathlib.Core.List.{List, [], _∷_, _++_, List·Memᴰ}
 use lib.ListN.{length, getD, take}
-use lib.Seq.{length-take-le, take-suc, take-all}
+use lib.Seq.{length-take-le, take-all}
 use lib.Dec.{ltb}
 use Rattle.base.specs.Lists.{all, for, count}
 use Rattle.base.proofs.Lists.{all-member, all-members, in-for, for-append, for-one, getD-member}
 use Rattle.model.specs.Execution.{Kind, kindOf, Instruction}
 use Rattle.model.specs.Questions.{moreLength}
-use Rattle.model.proofs.Accepted.{more-few}
 use Rattle.record_decoded.specs.declared.types.Instructions.{Instructions}
 use Rattle.record_decoded.specs.Decoded.{instructionAt, instructionsOf}
-use Rattle.record_decoded.proofs.Arrays.{instructions-length, instruction-there}
+use Rattle.record_decoded.proofs.Arrays.{instructions-length, instruction-there, instructions-more}
 use Rattle.model.specs.SolversCopy.{entriesLength, dataPlace, seenLength, seenPlaces, zeroed}
-use Rattle.record_seen.proofs.Places.{entries-length-append}
+use Rattle.record_seen.proofs.Places.{entries-length-append, entries-few}
 use Rattle.record_seen.proofs.Zeroed.{zeroed-length, zeroed-none, zeroed-append}
 
 -- what one instruction saw, among these
@@ -27,12 +25,6 @@ seenBy lines is j = count (dataPlace lines is j) (seenLength (j .kind) (j .size)
 -- what all elements give passes, so what one of them gives
 all-given : {A : Type 0} (p : ℕ → Bool) (f : A → List ℕ) {a : A} {l : List A} → List·Memᴰ a l → all p (for l f) ≡ true → all p (f a) ≡ true
 all-given p f {a} m h = all-members p (f a) (λ b k. all-member p (in-for f m k) h)
-
--- an instruction has at most 19 bytes
-entries-few : (l : List Instruction) → entriesLength l ≤ 19 * length l
-unfolding entriesLength
-entries-few [] = omega arith
-entries-few (i ∷ l) = omega (arith, more-few (i .kind) (i .size), entries-few l)
 
 -- The invariant: what the first i instructions saw is cleared, and the data bytes of instruction i, if processor 0 had it, begin at `place`.
 pub record SeenCleared (entry : List ℕ) (lines : ℕ) (x : Instructions) (i : ℕ) (bytes : List ℕ) (place : ℕ) : Type 0 where
@@ -67,12 +59,6 @@ module _ {entry : List ℕ} {lines : ℕ} {x : Instructions} {i : ℕ} {bytes : 
 
   -- a turn, for an instruction of kind k and processor p
   module _ (h : i < x .count) {k : Kind} (kind : k ≡ kindOf (getD (x .kinds) i 0)) where
-    first-more : take (i + 1) (instructionsOf x) ≡ take i (instructionsOf x) ++ (instructionAt x i ∷ [])
-    first-more =
-        ap (λ (j : ℕ). take j (instructionsOf x)) (add-one i)
-        ∙ take-suc (instructionsOf x) i (instructionAt x i) (omega (arith, h, instructions-length x))
-        ∙ ap (λ (j : Instruction). take i (instructionsOf x) ++ (j ∷ [])) (instruction-there x i (instructionAt x i) h)
-
     module _ {p n : ℕ} (owner : p ≡ getD (x .processors) i 0) (long : n ≡ seenLength k (getD (x .sizes) i 0)) where
       this-seen : count (place + p) n ≡ seenBy lines (instructionsOf x) (instructionAt x i)
       unfolding dataPlace instructionAt
@@ -101,6 +87,6 @@ module _ {entry : List ℕ} {lines : ℕ} {x : Instructions} {i : ℕ} {bytes : 
             made =
                 e ∙ ap₂ zeroed this-seen (inv .made) ∙ zeroed-append (for done f) (f (instructionAt x i)) entry
                 ∙ ap (λ (l : List ℕ). zeroed l entry)
-                (sym (ap (λ (l : List Instruction). for l f) first-more ∙ for-append done (instructionAt x i ∷ []) f ∙ ap (λ (l : List ℕ). for done f ++ l) (for-one (instructionAt x i) f)));
-            there = omega (arith, inv .there, ap entriesLength first-more, entries-length-append done (instructionAt x i ∷ []), one);
+                (sym (ap (λ (l : List Instruction). for l f) (instructions-more x i h) ∙ for-append done (instructionAt x i ∷ []) f ∙ ap (λ (l : List ℕ). for done f ++ l) (for-one (instructionAt x i) f)));
+            there = omega (arith, inv .there, ap entriesLength (instructions-more x i h), entries-length-append done (instructionAt x i ∷ []), one);
           }

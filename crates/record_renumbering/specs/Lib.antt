@@ -1,0 +1,4 @@
+-- The definitions and claims of this crate.
+pub mod Keys
+pub mod Forms
+pub mod FormsRow

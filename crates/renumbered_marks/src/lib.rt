@@ -1,0 +1,1 @@
+// Records with processors numbered anew have one mark: a theorem, no code.
