@@ -1,6 +1,7 @@
 /* K1 (one processor: st x=1, ld x sees 1) through check, judge, search and chain table; then a record with no instruction, one of
  * UC memory with its domains, a lock that two processors take, a load of sixteen bytes, a record that is written out of lines
- * and instructions prepared apart, and a copy without what was seen. k1.txt is what it prints. */
+ * and instructions prepared apart, a copy without what was seen, and records that are equal but for the numbers of their
+ * processors. k1.txt is what it prints. */
 #include "oglindesh.h"
 #include <stdio.h>
 
@@ -90,6 +91,26 @@ static const uint8_t handed_over[] = {
     0, 8, 1, 5, 0, 0, 0, 0, 0, 0, 0,  /* ld, address 8, size 1, sees 5 */
     0,                                /* no pair */
 };
+
+/* The same execution, of an author who numbers the processors the other way round. */
+enum { TURNED_SEEN = 2 + 2 * 9 + 1 + 3 };
+static uint8_t turned_round[] = {
+    2,                                /* two processors */
+    2,                                /* two lines: */
+    0, 0, 0, 0, 0, 0, 0, 0, 0,        /* WB, eight initial bytes */
+    0, 3, 0, 0, 0, 0, 0, 0, 0,        /* WB, y is 3 */
+    2,                                /* two instructions of the first: */
+    5, 0, 1, 1, 0, 0, 0, 0, 0, 0, 0,  /* sem.acq, address 0, size 1, sees 1 */
+    2, 0, 0, 0, 0, 0, 0, 0,           /* and writes 2 */
+    0, 8, 1, 5, 0, 0, 0, 0, 0, 0, 0,  /* ld, address 8, size 1, sees 5 */
+    2,                                /* two of the second: */
+    2, 8, 1, 5, 0, 0, 0, 0, 0, 0, 0,  /* st, address 8, size 1, writes 5 */
+    3, 0, 1, 1, 0, 0, 0, 0, 0, 0, 0,  /* st.rel, address 0, size 1, writes 1 */
+    0,                                /* no pair */
+};
+
+/* Two processors and no instruction, on a UC line of ones: no access touches it. */
+static const uint8_t nothing_on_ones[] = {2, 1, 1, 1, 1, 1, 1, 1, 1, 1, 1, 0, 0, 0};
 
 static void say_judgement(const uint8_t *record, size_t length, const uint8_t *order, size_t entries)
 {
@@ -181,6 +202,24 @@ static void copy_for_solvers(size_t length, size_t room)
     search_in_parts(copy, reply.length, 2000);
 }
 
+/* Compares two records, and says which of them is handed back. */
+static void say_comparison(const uint8_t *left, size_t left_length, const uint8_t *right, size_t right_length)
+{
+    uint32_t number = oglindesh_compare(left, left_length, right, right_length);
+    uint32_t first = oglindesh_first(left, left_length, right, right_length);
+
+    if (number > OGLINDESH_REFUSED)
+        printf("question %u refuses the comparison", (unsigned)(number - OGLINDESH_REFUSED));
+    else if (number == OGLINDESH_EQUAL)
+        printf("the records are equal");
+    else
+        printf("the %s record stands first", number == OGLINDESH_LEFT_FIRST ? "left" : "right");
+    if (first == OGLINDESH_EMPTY_PART)
+        printf(": nothing is handed back\n");
+    else
+        printf(": the %s one is handed back\n", first == OGLINDESH_LEFT_RECORD ? "left" : "right");
+}
+
 int main(void)
 {
     static const uint8_t local[] = {0, 2, 1}, remote_first[] = {1, 0, 2}, turned[] = {1, 0};
@@ -216,5 +255,12 @@ int main(void)
     copy_for_solvers(sizeof handed_over, OGLINDESH_MAX_RECORD);
     copy_for_solvers(sizeof handed_over, sizeof handed_over - 1); /* a byte too little room */
     copy_for_solvers(sizeof handed_over - 1, 0);                  /* without its last byte, which is asked before the room */
+    say_comparison(handed_over, sizeof handed_over, turned_round, sizeof turned_round);
+    search_in_parts(turned_round, sizeof turned_round, 2000); /* allowed as well, by another order */
+    turned_round[TURNED_SEEN] = 0;                            /* the semaphore of the right record sees less */
+    say_comparison(handed_over, sizeof handed_over, turned_round, sizeof turned_round);
+    say_comparison(nothing, sizeof nothing, nothing_on_ones, sizeof nothing_on_ones);
+    say_comparison(nothing, sizeof nothing, handed_over, sizeof handed_over); /* one line stands before two */
+    say_comparison(k1, sizeof k1 - 1, k1, sizeof k1);
     return 0;
 }

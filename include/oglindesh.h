@@ -8,11 +8,11 @@
  * - A record, its sections and an order are only read. A buffer or a table is lent for the call; it overlaps no other array of
  *   the call.
  * - A number from OGLINDESH_REFUSED + 1 on says that a question refuses the call: it is OGLINDESH_REFUSED + the number of the
- *   first question answered 'no'. Then no lent byte has changed.
+ *   first question answered 'no'. Then no lent byte has changed. (oglindesh_first has OGLINDESH_EMPTY_PART for all of these.)
  * - Nothing is kept between calls, so calls on different arrays may be made at the same time.
  * - Nothing is taken from the heap. What a call needs of the stack does not depend on what it is given; measured and rounded up:
  *   oglindesh_check 16 KB, oglindesh_judge 20 KB, oglindesh_search 64 KB, oglindesh_chains 48 KB, oglindesh_write 16 KB,
- *   oglindesh_solvers_copy 16 KB.
+ *   oglindesh_solvers_copy 16 KB, oglindesh_compare 16 KB, oglindesh_first 16 KB.
  */
 #ifndef OGLINDESH_H
 #define OGLINDESH_H
@@ -27,8 +27,8 @@ extern "C" {
 /* The version of what is declared here. MAJOR goes up where a caller has to change: a call, an answer's number, a question or the
  * layout of a record is another. MINOR goes up where something is added; while MAJOR is 0, for both. */
 #define OGLINDESH_VERSION_MAJOR 0
-#define OGLINDESH_VERSION_MINOR 7
-#define OGLINDESH_VERSION "0.7"
+#define OGLINDESH_VERSION_MINOR 8
+#define OGLINDESH_VERSION "0.8"
 
 /* What a refused call returns, less the number of the question. */
 #define OGLINDESH_REFUSED 256u
@@ -161,6 +161,37 @@ struct oglindesh_reply oglindesh_write(uint8_t processors, const uint8_t *lines,
  *   256 + q   question q refuses it: 1 to 15, 26 or 27 the record, 25 the buffer's length
  */
 struct oglindesh_reply oglindesh_solvers_copy(const uint8_t *record, size_t length, uint8_t *buffer, size_t room);
+
+/* The answers of a comparison. */
+#define OGLINDESH_EQUAL 0u       /* some renumbering of processors turns one record into the other */
+#define OGLINDESH_LEFT_FIRST 1u  /* they are not equal, and the left one stands first */
+#define OGLINDESH_RIGHT_FIRST 2u /* they are not equal, and the right one does */
+
+/* Compares two records, whatever numbers their processors have. A renumbering of the processors carries their
+ * programs and pairs along: the instructions are numbered anew, and the pairs sorted. Of a line that no access touches attribute
+ * and initial bytes do not count; an mf touches none, an access of 16 bytes two. How many lines there are does count.
+ *
+ * Records that are equal are all allowed or all forbidden; a search of each may find another order, after other steps. The order
+ * of records that are not is that of their smallest forms: of all records that the renumberings make of one, untouched lines taken
+ * as zero, the smallest byte by byte. The two records may lie in one array, and may be the same.
+ *   EQUAL         they are equal
+ *   LEFT_FIRST    they are not, and the left one stands first
+ *   RIGHT_FIRST   they are not, and the right one stands first
+ *   256 + q       question q refuses the left record, or where that passes the right one: 1 to 15, 26 or 27
+ */
+uint32_t oglindesh_compare(const uint8_t *left, size_t left_length, const uint8_t *right, size_t right_length);
+
+/* What is handed back of two records. */
+#define OGLINDESH_EMPTY_PART 0u   /* the first 0 bytes of the left record */
+#define OGLINDESH_LEFT_RECORD 1u  /* the left record */
+#define OGLINDESH_RIGHT_RECORD 2u /* the right record */
+
+/* Hands back whichever of two records stands first in the order of oglindesh_compare, the left one where they are equal.
+ *   LEFT_RECORD    it stands first, or they are equal
+ *   RIGHT_RECORD   it stands first
+ *   EMPTY_PART     a question refuses one of the records; oglindesh_compare says which question
+ */
+uint32_t oglindesh_first(const uint8_t *left, size_t left_length, const uint8_t *right, size_t right_length);
 
 #ifdef __cplusplus
 }

@@ -1,13 +1,13 @@
 //! Each proved call, and the verdict program, beside the independent one: both are asked, and must answer alike.
 
 use crate::proved;
-use crate::proved::{Judgement, Verdict};
+use crate::proved::{Comparison, Judgement, Verdict};
 use crate::reference::record::{self, Execution, MAX_OPERATIONS};
 use crate::reference::rules::{self, JudgeAnswer};
 use crate::reference::search::{self as brute, SearchAnswer, SearchReply};
-use crate::reference::solvers;
 use crate::reference::writer::{self, Sections};
-use crate::reference::{self, chains, fast};
+use crate::reference::{self, chains, fast, renumbering, solvers};
+use std::cmp::Ordering;
 use std::io::Write;
 use std::path::Path;
 use std::process::{Command, Stdio};
@@ -51,6 +51,35 @@ pub fn solvers_copy(record: &[u8], buffer: &mut [u8]) -> Result<usize, u8> {
     assert_eq!(answer, expected, "record {record:?}, room {room}");
     assert_eq!(buffer, other, "record {record:?}, room {room}");
     answer
+}
+
+/// What the proved comparison says, in the reference's words: how the left record stands to the right one.
+pub fn proved_compare(left: &[u8], right: &[u8]) -> Result<Ordering, u8> {
+    proved::compare(left, right).map(|comparison| match comparison {
+        Comparison::Equal => Ordering::Equal,
+        Comparison::LeftFirst => Ordering::Less,
+        Comparison::RightFirst => Ordering::Greater,
+    })
+}
+
+/// What both say of two records.
+pub fn compare(left: &[u8], right: &[u8]) -> Result<Ordering, u8> {
+    let expected = renumbering::compare(left, right);
+    let answer = proved_compare(left, right);
+    assert_eq!(answer, expected, "left {left:?}, right {right:?}");
+    answer
+}
+
+/// The part of two records that both hand back.
+pub fn first<'a>(left: &'a [u8], right: &'a [u8]) -> &'a [u8] {
+    let expected = renumbering::first(left, right);
+    let part = proved::first(left, right);
+    assert_eq!(
+        part.as_ptr_range(),
+        expected.as_ptr_range(),
+        "left {left:?}, right {right:?}"
+    );
+    part
 }
 
 /// What both readers say of a record.

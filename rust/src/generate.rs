@@ -121,6 +121,61 @@ fn written_apart(random: &mut Random, shape: &Shape) -> Execution {
     execution
 }
 
+/// Most instructions of a program that several processors have.
+const MOST_SHARED: usize = 4;
+
+/// An execution of two processors or more, many of which have the same program, with pairs of their own; often those of one are a
+/// beginning of another's.
+pub fn equal_programs(random: &mut Random) -> Execution {
+    let processors = random.between(2, MAX_PROCESSORS);
+    let base = execution(random, &Shape::SMALL);
+    let programs = base
+        .instructions
+        .chunk_by(|a, b| a.processor == b.processor);
+    let mut programs: Vec<&[Instruction]> = programs.collect();
+    programs.sort_by_key(|program| std::cmp::Reverse(program.len()));
+    programs.truncate(random.between(1, 2));
+    let shared = programs.iter().map(|program| {
+        let length = program.len().min(random.between(1, MOST_SHARED));
+        let program = program[..length].iter().map(|&instruction| Instruction {
+            processor: 0,
+            ..instruction
+        });
+        let alone = Execution::new(1, base.lines.clone(), program.collect(), Vec::new());
+        let mut pairs = possible_pairs(&alone);
+        pairs.retain(|_| !random.once_in(3));
+        (alone.instructions, pairs)
+    });
+    let shared: Vec<_> = shared.collect();
+    let (mut instructions, mut pairs) = (Vec::new(), Vec::new());
+    let mut room = MAX_OPERATIONS;
+    for processor in 0..processors {
+        let Some((program, all)) = shared.get(random.below(1 + 4 * shared.len()) / 4) else {
+            continue;
+        };
+        let roles = |instruction: &Instruction| instruction.kind.roles(processors).len();
+        let operations: usize = program.iter().map(roles).sum();
+        if operations > room || instructions.len() + program.len() > MAX_INSTRUCTIONS {
+            continue;
+        }
+        room -= operations;
+        let mut own = all.clone();
+        match random.below(4) {
+            0 => own.truncate(random.below(own.len() + 1)),
+            1 => own.retain(|_| !random.once_in(3)),
+            _ => {}
+        }
+        own.truncate(MAX_PAIRS - pairs.len());
+        let start = instructions.len() as u8;
+        pairs.extend(own.iter().map(|(a, b)| (start + a, start + b)));
+        instructions.extend(program.iter().map(|&instruction| Instruction {
+            processor,
+            ..instruction
+        }));
+    }
+    Execution::new(processors, base.lines.clone(), instructions, pairs)
+}
+
 /// How often each size is picked where no access lies on two lines, and where some may.
 const SIZES_OF_A_LINE: [usize; 5] = [1, 1, 2, 4, 8];
 const ALL_SIZES: [usize; 9] = [1, 2, 4, 8, 8, 8, 16, 16, 16];
@@ -342,7 +397,7 @@ pub fn accesses(lines: usize) -> Vec<(usize, usize)> {
 }
 
 /// All pairs that question 13 passes, in question 14's order.
-fn possible_pairs(execution: &Execution) -> Vec<(u8, u8)> {
+pub fn possible_pairs(execution: &Execution) -> Vec<(u8, u8)> {
     let count = execution.instructions.len() as u8;
     (0..count)
         .flat_map(|first| (first + 1..count).map(move |second| (first, second)))

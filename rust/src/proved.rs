@@ -9,6 +9,8 @@
 //! |---|---|
 //! | [`write`] | the record is written, and how long it is |
 //! | [`solvers_copy`] | the copy of a record without what was seen is written, and how long it is |
+//! | [`compare`] | whether two records are equal but for the numbers of their processors, else which stands first |
+//! | [`first`] | without an `Ok`: whichever of two records stands first is handed back; where one is refused, nothing |
 //! | [`check`] | the record passes questions 1 to 15, 26 and 27 |
 //! | [`judge`] | whether an order is legal, else the lowest rule that it breaks |
 //! | [`search`] | allowed, with the first legal order; forbidden; or unfinished, with the position to go on from |
@@ -126,6 +128,18 @@ mod exported {
             buffer: *mut u8,
             room: usize,
         ) -> Numbers;
+        pub fn oglindesh_compare(
+            left: *const u8,
+            left_length: usize,
+            right: *const u8,
+            right_length: usize,
+        ) -> u32;
+        pub fn oglindesh_first(
+            left: *const u8,
+            left_length: usize,
+            right: *const u8,
+            right_length: usize,
+        ) -> u32;
     }
 
     /// The reply of a call that writes a record, as the library returns it.
@@ -158,6 +172,15 @@ pub mod numbers {
     /// [`chain_table`](super::chain_table): the table is written. [`write`](super::write): the record is.
     /// [`solvers_copy`](super::solvers_copy): the copy is.
     pub const DONE: u32 = 0;
+    /// [`compare`](super::compare), and the two after it.
+    pub const EQUAL: u32 = 0;
+    pub const LEFT_FIRST: u32 = 1;
+    pub const RIGHT_FIRST: u32 = 2;
+    /// [`first`](super::first): what it hands back, and the two after it. The empty part is of the left record, where either is
+    /// refused.
+    pub const EMPTY_PART: u32 = 0;
+    pub const LEFT_RECORD: u32 = 1;
+    pub const RIGHT_RECORD: u32 = 2;
     /// What a refused call returns, less the number of the question.
     pub const REFUSED: u32 = 256;
     /// No record has more bytes, so a buffer of so many has room for all that [`write`](super::write) and
@@ -165,7 +188,10 @@ pub mod numbers {
     pub const MAX_RECORD: usize = 923;
 }
 
-use numbers::{ALLOWED, DONE, FORBIDDEN, LEGAL, PASSES, REFUSED, UNFINISHED};
+use numbers::{
+    ALLOWED, DONE, EMPTY_PART, EQUAL, FORBIDDEN, LEFT_FIRST, LEFT_RECORD, LEGAL, PASSES, REFUSED,
+    RIGHT_FIRST, RIGHT_RECORD, UNFINISHED,
+};
 
 /// The question of a number that says 'refused'.
 fn question(number: u32) -> u8 {
@@ -301,6 +327,91 @@ fn written(numbers: exported::Numbers) -> Result<usize, u8> {
         number => {
             debug_assert_eq!(numbers.length, 0, "a refusal writes nothing");
             Err(question(number))
+        }
+    }
+}
+
+/// How two records stand to each other.
+#[derive(Clone, Copy, PartialEq, Eq, Debug)]
+pub enum Comparison {
+    /// Some renumbering of processors turns one into the other.
+    Equal,
+    LeftFirst,
+    RightFirst,
+}
+
+/// Whether two records are the same execution but for the numbers of its processors, and if not, which stands first; where a
+/// question refuses one, the number of the first that the left record fails, else that of the right one.
+///
+/// A renumbering of the processors carries their programs and pairs along: the instructions are numbered anew, and the pairs
+/// sorted. Attribute and initial bytes of a line that no access touches do not count, an mf being none; how many lines there are
+/// does. Records that are equal are all allowed or all forbidden, but a search of them may find other orders after other steps.
+///
+/// The order is that of the smallest renumbered forms: of all records that the renumberings make of one, untouched lines taken as
+/// zero, the smallest byte by byte.
+///
+/// ```
+/// use oglindesh::executions;
+/// use oglindesh::proved::{compare, Comparison};
+///
+/// let record = |text: &str| {
+///     let text = format!("execution e\n  programs {text}\n  operations 8");
+///     let written = executions::read("e", &text).expect("it is well written");
+///     written[0].record().expect("it passes")
+/// };
+/// let one = record("st x=1, st.rel y=1; ld.acq y sees 1, ld x sees 0");
+/// let other = record("ld.acq y sees 1, ld x sees 0; st x=1, st.rel y=1");
+/// assert_ne!(one, other);
+/// assert_eq!(compare(&one, &other), Ok(Comparison::Equal));
+///
+/// // With ld for ld.acq. The loads stand first in the smallest form of either, and ld has the smaller number.
+/// let weaker = record("st x=1, st.rel y=1; ld y sees 1, ld x sees 0");
+/// assert_eq!(compare(&one, &weaker), Ok(Comparison::RightFirst));
+/// assert_eq!(compare(&weaker, &other), Ok(Comparison::LeftFirst));
+///
+/// // Without its last byte, and with one too many: the left record is asked first.
+/// let (cut, long) = (&one[..one.len() - 1], [&one[..], &[0]].concat());
+/// assert_eq!(compare(cut, &long), Err(1));
+/// assert_eq!(compare(&one, &long), Err(15));
+/// ```
+pub fn compare(left: &[u8], right: &[u8]) -> Result<Comparison, u8> {
+    // SAFETY: each pointer and the length after it are those of one slice, which the call only reads.
+    match unsafe {
+        exported::oglindesh_compare(left.as_ptr(), left.len(), right.as_ptr(), right.len())
+    } {
+        EQUAL => Ok(Comparison::Equal),
+        LEFT_FIRST => Ok(Comparison::LeftFirst),
+        RIGHT_FIRST => Ok(Comparison::RightFirst),
+        number => Err(question(number)),
+    }
+}
+
+/// Hands back the record that stands first, the left one where they are equal; where a question refuses either, the empty part of
+/// the left one. [`compare`] says which of these it is, and the question.
+///
+/// ```
+/// use oglindesh::proved::first;
+///
+/// // Two processors, one WB line of zeros; of the left record the first has an mf and the other nothing, of the right one
+/// // the other way round. Of the third both have an mf.
+/// let record = |programs: &[&[u8]]| [&[2, 1][..], &[0; 9], &programs.concat(), &[0]].concat();
+/// let (none, mf) = (&[0][..], &[1, 4, 0, 0, 0, 0, 0, 0, 0, 0, 0, 0][..]);
+/// let (left, right, both) = (record(&[mf, none]), record(&[none, mf]), record(&[mf, mf]));
+/// assert_eq!(first(&left, &right), left);
+/// assert_eq!(first(&right, &left), right);
+/// assert_eq!(first(&both, &left), left);
+/// assert_eq!(first(&left, &both[1..]), []);
+/// ```
+pub fn first<'a>(left: &'a [u8], right: &'a [u8]) -> &'a [u8] {
+    // SAFETY: each pointer and the length after it are those of one slice, which the call only reads.
+    match unsafe {
+        exported::oglindesh_first(left.as_ptr(), left.len(), right.as_ptr(), right.len())
+    } {
+        LEFT_RECORD => left,
+        RIGHT_RECORD => right,
+        number => {
+            debug_assert_eq!(number, EMPTY_PART, "one of three parts is handed back");
+            &left[..0]
         }
     }
 }

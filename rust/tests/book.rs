@@ -212,6 +212,98 @@ fn solvers_of_a_wrong_line() {
     assert!(says.starts_with(&begins), "{says}");
 }
 
+/// K6 by another author, with the processors the other way round.
+const TURNED: &str = "execution message passing
+  programs   ld.acq y sees 1, ld x sees 0; st x=1, st.rel y=1
+  forbidden\n";
+
+#[test]
+fn same_over_two_files() {
+    let scope = "executions/scope.txt";
+    let mine = file("turned.txt", TURNED);
+    let list = printed(&["same", scope, &mine]);
+    let lines: Vec<&str> = text(&list).lines().collect();
+    // Where they stand in the file, by its text.
+    let whole = std::fs::read_to_string(format!("{ROOT}/{scope}")).expect("it is read");
+    let at = |name: &str| {
+        let head = format!("execution {name}");
+        let line = whole.lines().position(|line| line == head);
+        let line = line.unwrap_or_else(|| panic!("{scope} has no {name}"));
+        format!("{scope}:{}: `{name}`", line + 1)
+    };
+    assert_eq!(
+        lines,
+        [
+            format!("{} = {} = {}", at("K1"), at("K3"), at("K5")),
+            format!("{} = {mine}:1: `message passing`", at("K6")),
+            format!(
+                "{} is left out: question 8 refuses it (is the address a multiple of the size, within the lines?), so it has no record",
+                at("lone load at address 4")
+            ),
+            format!(
+                "{} is left out: question 11 refuses it (are there at most 128 operations?), so it has no record",
+                at("eight processors and a store more")
+            ),
+        ]
+    );
+    // The order of reading.
+    let turned = printed(&["same", &mine, scope]);
+    let line = format!("{mine}:1: `message passing` = {}", at("K6"));
+    assert_eq!(text(&turned).lines().next(), Some(line.as_str()));
+}
+
+/// What counts are the attributes that the execution is printed with, and of a line only if an access touches it.
+#[test]
+fn same_with_other_attributes_and_lines() {
+    let executions = "execution on UC
+  programs   st x=1, ld x sees 1; none
+  refused 8
+  allowed    on UC or WB
+execution on WB
+  programs   st x=1, ld x sees 1; none
+  allowed    on WB or UC
+execution on two lines
+  programs   none; st x=1, ld x sees 1
+  initially  y=3
+  allowed    on x WB, y UC
+execution on two others
+  programs   st x=1, ld x sees 1; none
+  initially  y=4
+  allowed
+execution elsewhere
+  programs   sem.acq x sees 0 writes 1
+  refused 26 on UC
+  refused 26 on WC\n";
+    let executions = file("attributes.txt", executions);
+    let expected = format!(
+        "{executions}:8: `on two lines` = {executions}:12: `on two others`
+{executions}:16: `elsewhere` is left out: question 26 refuses it (is the semaphore's line WB?), so it has no record\n"
+    );
+    let list = printed(&["same", &executions]);
+    assert_eq!(text(&list), expected);
+}
+
+#[test]
+fn same_where_none_is() {
+    let one = file("alone.txt", &format!("{K1}  allowed\n"));
+    let other = file("beside.txt", TURNED);
+    let list = printed(&["same", &one, &other]);
+    let none = "2 executions, no two of which are the same\n";
+    assert_eq!(text(&list), none);
+    // A file that is read twice has everything twice.
+    let twice = printed(&["same", &one, &one]);
+    assert_eq!(text(&twice), format!("{one}:1: `K1` = {one}:1: `K1`\n"));
+}
+
+#[test]
+fn same_of_a_wrong_line() {
+    let good = file("good_of_same.txt", &format!("{K1}  allowed\n"));
+    let wrong = file("wrong_of_same.txt", &format!("{K1}  alowed\n"));
+    let says = complaint(&["same", &good, &wrong]);
+    let begins = format!("{wrong}:3: `alowed` does not begin a line: write execution, ");
+    assert!(says.starts_with(&begins), "{says}");
+}
+
 /// The rows of a help, each cut into its columns.
 fn rows(help: &str) -> Vec<Vec<&str>> {
     let rows = help.lines().filter_map(|line| line.strip_prefix("  "));
@@ -230,6 +322,7 @@ fn help_has_a_row_for_each_command() {
         "book check [FILE ...]",
         "book record FILE NAME",
         "book solvers FILE",
+        "book same FILE ...",
         "book help",
     ] {
         assert!(forms.contains(&form), "{forms:?}");
@@ -267,6 +360,8 @@ fn wrong_arguments() {
         (&["check", "--all"], "write: book check [FILE ...], "),
         (&["solvers"], "write: book solvers FILE, "),
         (&["solvers", "a", "b"], "write: book solvers FILE, "),
+        (&["same"], "write: book same FILE ..., "),
+        (&["same", "--all"], "write: book same FILE ..., "),
         (&["help", "check"], "write: book help, "),
     ] {
         let complaint = complaint(arguments);
@@ -281,6 +376,7 @@ fn a_missing_file() {
         &["check", "missing.txt"][..],
         &["record", "missing.txt", "K1"],
         &["solvers", "missing.txt"],
+        &["same", "executions/scope.txt", "missing.txt"],
     ] {
         let complaint = complaint(arguments);
         let says = "missing.txt: the file cannot be read: ";

@@ -19,13 +19,19 @@ const MAX_RECORD: usize = 1
     + (1 + MAX_PAIRS * PAIR_ITEM);
 
 /// Names and their numbers in the wrapper; the refusals and the version are apart.
-const NUMBERS: [(&str, usize); 9] = [
+const NUMBERS: [(&str, usize); 15] = [
     ("PASSES", numbers::PASSES as usize),
     ("LEGAL", numbers::LEGAL as usize),
     ("UNFINISHED", numbers::UNFINISHED as usize),
     ("ALLOWED", numbers::ALLOWED as usize),
     ("FORBIDDEN", numbers::FORBIDDEN as usize),
     ("DONE", numbers::DONE as usize),
+    ("EQUAL", numbers::EQUAL as usize),
+    ("LEFT_FIRST", numbers::LEFT_FIRST as usize),
+    ("RIGHT_FIRST", numbers::RIGHT_FIRST as usize),
+    ("EMPTY_PART", numbers::EMPTY_PART as usize),
+    ("LEFT_RECORD", numbers::LEFT_RECORD as usize),
+    ("RIGHT_RECORD", numbers::RIGHT_RECORD as usize),
     ("REFUSED", numbers::REFUSED as usize),
     ("MAX_RECORD", numbers::MAX_RECORD),
     ("MAX_OPERATIONS", MAX_OPERATIONS),

@@ -20,7 +20,7 @@ fn printed(text: &str) -> String {
 
 /// The solvers' copy of the record that is printed; a question where there is none.
 fn copy_of(written: &Written) -> Result<Vec<u8>, u8> {
-    let record = record(&written.solvers_execution())?;
+    let record = record(&written.printed_execution())?;
     let mut copy = vec![170; record.len()];
     solvers_copy(&record, &mut copy).map(|_| copy)
 }

@@ -6,9 +6,12 @@
 
 use oglindesh::beside::proved_write;
 use oglindesh::examples::{k1, longest};
-use oglindesh::proved::{chain_table, check, judge, search, solvers_copy, Judgement, Verdict};
+use oglindesh::proved::{
+    chain_table, check, compare, first, judge, search, solvers_copy, Comparison, Judgement, Verdict,
+};
 use oglindesh::reference::notation::{acq, ld, programs, rel, st};
 use oglindesh::reference::record::{Attribute, Execution, Instruction};
+use oglindesh::reference::renumbering::renumbered;
 use oglindesh::reference::writer::Sections;
 use std::process::{Command, Stdio};
 
@@ -23,7 +26,7 @@ struct Call {
 }
 
 /// All calls.
-const CALLS: [Call; 6] = [
+const CALLS: [Call; 8] = [
     Call {
         name: "oglindesh_check",
         needs: 16,
@@ -61,6 +64,24 @@ const CALLS: [Call; 6] = [
             assert_eq!(answer, Ok(length));
         },
     },
+    Call {
+        name: "oglindesh_compare",
+        needs: 16,
+        run: |case| {
+            let answer = compare(&case.record, &case.renumbered);
+            assert_eq!(answer, Ok(Comparison::Equal));
+            let answer = compare(&case.renumbered, &case.forbidden);
+            assert_eq!(answer, Ok(Comparison::LeftFirst));
+        },
+    },
+    Call {
+        name: "oglindesh_first",
+        needs: 16,
+        run: |case| {
+            assert_eq!(first(&case.record, &case.renumbered), case.record);
+            assert_eq!(first(&case.forbidden, &case.renumbered), case.renumbered);
+        },
+    },
 ];
 
 /// What a thread of Rust needs beside a call, in kilobytes: its own data, which stands on its stack, its start, and the wrapper.
@@ -76,6 +97,8 @@ struct Case {
     order: Vec<u8>,
     /// The record with a load that sees what nobody wrote, which a search finds out last.
     forbidden: Vec<u8>,
+    /// The record with its processors in the opposite order.
+    renumbered: Vec<u8>,
 }
 
 /// To the first legal order; then a long search, which goes on once from where it was left.
@@ -115,11 +138,13 @@ fn case(execution: &Execution) -> Case {
     let mut order = vec![0; execution.operation_count()];
     let reply = search(&record, &mut order, 0, u32::MAX);
     assert_eq!(reply.answer, Ok(Verdict::Allowed));
+    let opposite: Vec<usize> = (0..execution.processors).rev().collect();
     Case {
         record,
         sections: execution.sections(),
         order,
         forbidden: forbidden.to_bytes(),
+        renumbered: renumbered(execution, &opposite).to_bytes(),
     }
 }
 

@@ -6,14 +6,16 @@
 //! field of `Calls`.
 
 use oglindesh::beside::{
-    proved_judge, proved_operation_count, proved_search, proved_write, verdict_program,
+    proved_compare, proved_judge, proved_operation_count, proved_search, proved_write,
+    verdict_program,
 };
 use oglindesh::proved;
 use oglindesh::reference::record::read;
 use oglindesh::reference::rules::{self, JudgeAnswer};
 use oglindesh::reference::search::{SearchAnswer, SearchReply};
 use oglindesh::reference::writer::{self, Sections};
-use oglindesh::reference::{self, chains, fast, solvers};
+use oglindesh::reference::{self, chains, fast, renumbering, solvers};
+use std::cmp::Ordering;
 use std::path::Path;
 
 /// What replies are made of.
@@ -27,6 +29,8 @@ struct Calls {
     verdict: fn(&[u8]) -> String,
     write: fn(&Sections, &mut [u8]) -> Result<usize, u8>,
     solvers_copy: fn(&[u8], &mut [u8]) -> Result<usize, u8>,
+    compare: fn(&[u8], &[u8]) -> Result<Ordering, u8>,
+    first: for<'a> fn(&'a [u8], &'a [u8]) -> &'a [u8],
 }
 
 const EXPORTED: Calls = Calls {
@@ -38,6 +42,8 @@ const EXPORTED: Calls = Calls {
     verdict: |input| verdict_program(&[input]),
     write: proved_write,
     solvers_copy: proved::solvers_copy,
+    compare: proved_compare,
+    first: proved::first,
 };
 
 const REFERENCE: Calls = Calls {
@@ -49,13 +55,15 @@ const REFERENCE: Calls = Calls {
     verdict: reference::verdict::verdict,
     write: writer::write,
     solvers_copy: solvers::solvers_copy,
+    compare: renumbering::compare,
+    first: renumbering::first,
 };
 
 /// The reply to a request by these calls, from what follows its name; none where that is not understood.
 type Reply = fn(&Calls, &mut Words) -> Option<String>;
 
 /// All requests.
-const REQUESTS: [(&str, Reply); 7] = [
+const REQUESTS: [(&str, Reply); 9] = [
     ("check", check),
     ("judge", judge),
     ("search", search),
@@ -63,7 +71,12 @@ const REQUESTS: [(&str, Reply); 7] = [
     ("verdict", verdict),
     ("write", write),
     ("copy", solvers_copy),
+    ("compare", compare),
+    ("first", first),
 ];
+
+/// Those that no file has a line of yet. What `first` hands back is looked at in each line of `compare` too.
+const IN_NO_FILE: [&str; 1] = ["first"];
 
 fn check(calls: &Calls, words: &mut Words) -> Option<String> {
     let record = words.bytes()?;
@@ -134,6 +147,39 @@ fn solvers_copy(calls: &Calls, words: &mut Words) -> Option<String> {
     words.end()?;
     let answer = (calls.solvers_copy)(&record, &mut buffer);
     Some(written(answer, &buffer))
+}
+
+/// Which stands first; where the part that is handed back is not the one that follows from it, that too.
+fn compare(calls: &Calls, words: &mut Words) -> Option<String> {
+    let (left, right) = (words.bytes()?, words.bytes()?);
+    words.end()?;
+    let (answer, wanted) = match (calls.compare)(&left, &right) {
+        Ok(Ordering::Equal) => ("equal".to_string(), "left"),
+        Ok(Ordering::Less) => ("left".to_string(), "left"),
+        Ok(Ordering::Greater) => ("right".to_string(), "right"),
+        Err(question) => (format!("refused {question}"), "empty"),
+    };
+    Some(match handed_back(calls, &left, &right) {
+        part if part == wanted => answer,
+        other => format!("{answer}, but first {other}"),
+    })
+}
+
+fn first(calls: &Calls, words: &mut Words) -> Option<String> {
+    let (left, right) = (words.bytes()?, words.bytes()?);
+    words.end()?;
+    Some(handed_back(calls, &left, &right).to_string())
+}
+
+/// Which part of the two is handed back.
+fn handed_back(calls: &Calls, left: &[u8], right: &[u8]) -> &'static str {
+    let part = (calls.first)(left, right).as_ptr_range();
+    match part {
+        part if part == left.as_ptr_range() && !left.is_empty() => "left",
+        part if part == right.as_ptr_range() && !right.is_empty() => "right",
+        part if part == left[..0].as_ptr_range() => "empty",
+        _ => "none of these parts",
+    }
 }
 
 /// The reply of a call that writes a record, and the buffer that it left.
@@ -239,12 +285,15 @@ fn every_line_of_every_file() {
     }
     assert!(wrong.is_empty(), "{}", wrong.join("\n"));
     for (place, (request, _)) in REQUESTS.iter().enumerate() {
-        assert!(all[place] > 0, "no line of {request} was run");
+        let expected = !IN_NO_FILE.contains(request);
+        assert_eq!(all[place] > 0, expected, "{} of {request}", all[place]);
     }
 }
 
 /// One processor, one WB line of zeros, one mf.
 const FENCE: &str = "010100000000000000000001040000000000000000000000";
+/// The same without it.
+const EMPTY: &str = "01010000000000000000000000";
 
 #[test]
 fn a_line_is_understood() {
@@ -263,8 +312,18 @@ fn a_line_is_understood() {
         "copy FENCE FENCE07\tdone 24 FENCE07",
         "copy FENCE 07\trefused 25 0 07",
         "copy - -\trefused 1 0 -",
+        "compare FENCE FENCE\tequal",
+        "compare FENCE EMPTY\tright",
+        "compare EMPTY FENCE\tleft",
+        "compare FENCE EMPTY00\trefused 15",
+        "compare - EMPTY00\trefused 1",
+        "first FENCE FENCE\tleft",
+        "first FENCE EMPTY\tright",
+        "first EMPTY FENCE\tleft",
+        "first FENCE -\tempty",
+        "first - FENCE\tempty",
     ] {
-        let run = run(&line.replace("FENCE", FENCE));
+        let run = run(&line.replace("FENCE", FENCE).replace("EMPTY", EMPTY));
         assert!(run.is_ok(), "{line}: {run:?}");
     }
 }
@@ -293,6 +352,10 @@ fn a_wrong_line_is_told() {
         ("write 0 - - - - -\trefused 2 0 -", "not understood"),
         ("copy -\trefused 1 0 -", "not understood"),
         ("copy - - -\trefused 1 0 -", "not understood"),
+        ("compare -\trefused 1", "not understood"),
+        ("compare - - -\trefused 1", "not understood"),
+        ("first -\tempty", "not understood"),
+        ("first - - -\tempty", "not understood"),
         ("check -\trefused 2", "exported \"refused 1\", not"),
         ("check -\trefused 1 ", "exported \"refused 1\", not"),
         ("check -\tok 0", "exported \"refused 1\", not"),
@@ -309,6 +372,8 @@ fn a_wrong_line_is_told() {
             "copy - 07\trefused 1 0 00",
             "exported \"refused 1 0 07\", not",
         ),
+        ("compare - -\tequal", "exported \"refused 1\", not"),
+        ("first - -\tleft", "exported \"empty\", not"),
     ] {
         let said = run(line).expect_err(line);
         assert!(said.contains(what), "{line:?} gives {said}");

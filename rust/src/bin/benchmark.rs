@@ -2,11 +2,12 @@
 
 use std::time::Instant;
 
-use oglindesh::beside::proved_write;
+use oglindesh::beside::{proved_compare, proved_write};
 use oglindesh::examples::{eight_processors, longest, named};
 use oglindesh::proved::{self, Judgement, Verdict};
 use oglindesh::reference::notation::{ld, programs, st, X, Y, Z};
 use oglindesh::reference::record::Execution;
+use oglindesh::reference::renumbering::{self, renumbered};
 use oglindesh::reference::rules::{self, JudgeAnswer};
 use oglindesh::reference::search::SearchAnswer;
 use oglindesh::reference::{chains, fast, solvers, writer};
@@ -72,6 +73,37 @@ fn solvers_copy_line(execution: &Execution) {
         || assert_eq!(solvers::solvers_copy(&bytes, &mut other), Ok(length)),
     );
     call_times(&format!("solvers' copy, {length} bytes"), &times);
+}
+
+/// A record beside itself with its processors in the opposite order; and beside that with another value seen.
+fn compare_lines(name: &str, execution: &Execution, calls: u32) {
+    let opposite: Vec<usize> = (0..execution.processors).rev().collect();
+    let equal = renumbered(execution, &opposite);
+    let mut unequal = equal.clone();
+    let mut loads = unequal.instructions.iter_mut();
+    let load = loads.find(|i| i.kind.is_load()).expect("there is a load");
+    load.seen[0] ^= 1;
+    let bytes = execution.to_bytes();
+    for (what, other) in [("equal", equal), ("not equal", unequal)] {
+        let other = other.to_bytes();
+        let expected = renumbering::compare(&bytes, &other);
+        let times = beside(
+            calls,
+            || assert_eq!(proved_compare(&bytes, &other), expected),
+            || assert_eq!(renumbering::compare(&bytes, &other), expected),
+        );
+        let processors = execution.processors;
+        call_times(
+            &format!("compare, {name}, {processors} processors, {what}"),
+            &times,
+        );
+    }
+}
+
+/// Eight processors with the same five loads, so that no renumbering can be left out before all processors are placed.
+fn equal_programs() -> Execution {
+    let program = [ld(X, 0), ld(Y, 0), ld(Z, 0), ld(X, 1), ld(Y, 1)];
+    programs(&[&program[..]; 8]).build()
 }
 
 /// Prints the microseconds that a whole call takes both ways.
@@ -223,6 +255,10 @@ fn main() {
     write_line(&execution);
     write_line(&longest());
     solvers_copy_line(&longest());
+    compare_lines("K6", &named("scope", "K6"), CALLS_A_ROUND);
+    compare_lines("table 15", &named("note", "table 15"), CALLS_A_ROUND);
+    compare_lines("the longest record", &longest(), 10);
+    compare_lines("equal programs", &equal_programs(), 1);
     search_line("table 15", &named("note", "table 15"), 100_000);
     search_line("many operations", &many_operations(), 100_000);
     search_line("overlapping loads", &overlapping_loads(), 100_000);

@@ -1,8 +1,8 @@
-//! The program `book`: runs what files of executions claim, writes their records, and prints them for solvers. `COMMANDS` has all
-//! that it can do.
+//! The program `book`: runs what files of executions claim, writes their records, prints them for solvers, and lists those that are
+//! there twice. `COMMANDS` has all that it can do.
 
 use oglindesh::executions::{
-    self, asks, load, run_all, solvers_text, source, Written, Wrong, SOURCES,
+    self, asks, load, run_all, same_text, solvers_text, source, Written, Wrong, SOURCES,
 };
 use std::io::Write;
 use std::path::Path;
@@ -19,7 +19,7 @@ struct Command {
 }
 
 /// All commands, in the order in which the help has them.
-const COMMANDS: [Command; 4] = [
+const COMMANDS: [Command; 5] = [
     Command {
         name: "check",
         takes: "[FILE ...]",
@@ -40,6 +40,13 @@ const COMMANDS: [Command; 4] = [
         does: "prints the executions with nothing seen, and none of their claims",
         example: "book solvers mine.txt",
         run: solvers,
+    },
+    Command {
+        name: "same",
+        takes: "FILE ...",
+        does: "lists the executions that are equal but for the numbers of their processors",
+        example: "book same mine.txt yours.txt",
+        run: same,
     },
     Command {
         name: "help",
@@ -130,9 +137,7 @@ fn help(arguments: &[&str]) -> Result<(), Failed> {
 }
 
 fn check(files: &[&str]) -> Result<(), Failed> {
-    if files.iter().any(|file| file.starts_with('-')) {
-        return Err(Failed::Arguments);
-    }
+    no_option(files)?;
     if files.is_empty() {
         return SOURCES.iter().try_for_each(|name| {
             let file = format!("executions/{name}.txt");
@@ -142,6 +147,14 @@ fn check(files: &[&str]) -> Result<(), Failed> {
     files
         .iter()
         .try_for_each(|file| check_file(file, load(Path::new(file))))
+}
+
+/// What begins with `-` is no file.
+fn no_option(files: &[&str]) -> Result<(), Failed> {
+    match files.iter().any(|file| file.starts_with('-')) {
+        true => Err(Failed::Arguments),
+        false => Ok(()),
+    }
 }
 
 /// Runs a file, and says in a line what was run.
@@ -197,6 +210,17 @@ fn solvers(arguments: &[&str]) -> Result<(), Failed> {
     };
     let executions = load(Path::new(file))?;
     write("the text", solvers_text(&executions).as_bytes())
+}
+
+/// Lists the executions of all files that are there twice.
+fn same(files: &[&str]) -> Result<(), Failed> {
+    no_option(files)?;
+    if files.is_empty() {
+        return Err(Failed::Arguments);
+    }
+    let read = files.iter().map(|&file| Ok((file, load(Path::new(file))?)));
+    let read: Result<Vec<_>, Wrong> = read.collect();
+    write("the list", same_text(&read?).as_bytes())
 }
 
 /// Writes to standard output.

@@ -1,5 +1,5 @@
 //! Executions written as the papers write them, in text files: what a file holds, how it is read, how its claims are run, how it
-//! is printed for solvers.
+//! is printed for solvers, and which executions are there twice.
 //! docs/EXECUTIONS.md says how to write one.
 
 mod claims;
@@ -7,6 +7,7 @@ mod draft;
 mod print;
 mod reader;
 mod run;
+mod same;
 mod words;
 
 use crate::beside::proved_write;
@@ -19,6 +20,7 @@ use std::path::Path;
 pub use print::solvers_text;
 pub use reader::{asks, read};
 pub use run::{run_all, Ran};
+pub use same::same_text;
 
 /// One execution of a file, and what is claimed of it.
 #[derive(Clone, PartialEq, Eq, Debug)]
@@ -115,6 +117,14 @@ impl Written {
             line.attribute = attributes[0];
         }
         first
+    }
+
+    /// What is printed of it: the execution with the attributes of the first claim that is not 'refused', the first where there
+    /// are several. Where all are, those of the first claim.
+    pub fn printed_execution(&self) -> Execution {
+        let passes = |claim: &&Claim| !matches!(claim.says, Says::Refused(_));
+        let claim = self.claims.iter().find(passes).or(self.claims.first());
+        claim.map_or(self.execution.clone(), |claim| self.first_mix(claim))
     }
 
     /// The execution under every mix of the attributes that a claim is made for.

@@ -6,7 +6,7 @@
 use super::claims::begins_alternatives;
 use super::draft::{ACCESSES, FENCE};
 use super::words::OPEN_ENDS;
-use super::{asks, record, Claim, Names, Says, Written};
+use super::{asks, record, Names, Written};
 use crate::proved;
 use crate::reference::record::{
     read, Attribute, Execution, Instruction, Kind, LINE_SIZE, MAX_SIZE,
@@ -19,7 +19,7 @@ const WIDTH: usize = 100;
 const COLUMN: usize = 14;
 
 /// The executions without what was seen, an empty line between them; they can be read again. Each has the attributes of
-/// [`Written::solvers_execution`]. Where a question refuses it, a comment says so in its place.
+/// [`Written::printed_execution`]. Where a question refuses it, a comment says so in its place.
 pub fn solvers_text(executions: &[Written]) -> String {
     let all = executions.iter().map(|written| match copy_of(written) {
         Ok(copy) => printed(&written.name, &written.names, &copy),
@@ -32,19 +32,9 @@ pub fn solvers_text(executions: &[Written]) -> String {
     all.collect::<Vec<String>>().join("\n")
 }
 
-impl Written {
-    /// What a solvers' copy is made of: the execution with the attributes of the first claim that is not 'refused', the first
-    /// where there are several. Where all are, those of the first claim.
-    pub fn solvers_execution(&self) -> Execution {
-        let passes = |claim: &&Claim| !matches!(claim.says, Says::Refused(_));
-        let claim = self.claims.iter().find(passes).or(self.claims.first());
-        claim.map_or(self.execution.clone(), |claim| self.first_mix(claim))
-    }
-}
-
 /// What the bytes of the solvers' copy hold.
 fn copy_of(written: &Written) -> Result<Execution, u8> {
-    let record = record(&written.solvers_execution())?;
+    let record = record(&written.printed_execution())?;
     let mut copy = vec![0; record.len()];
     proved::solvers_copy(&record, &mut copy)?;
     read(&copy)

@@ -1,14 +1,15 @@
 //! Runs a claim: through the proved library and beside it through the brute force, under every mix of its attributes.
 
 use super::{Claim, Says, Written, Wrong};
-use crate::beside::{proved_judge, proved_search};
+use crate::beside::{proved_compare, proved_judge, proved_search};
 use crate::proved;
 use crate::random::Random;
 use crate::reference::counting::{self, Counted};
 use crate::reference::record::{self, Execution};
 use crate::reference::rules::{self, JudgeAnswer};
 use crate::reference::search::{self, SearchAnswer, SearchReply};
-use crate::reference::{chains, fast, solvers};
+use crate::reference::{chains, fast, renumbering, solvers};
+use std::cmp::Ordering as Order;
 use std::sync::atomic::{AtomicUsize, Ordering};
 use std::sync::Mutex;
 
@@ -102,7 +103,8 @@ fn run(execution: &Execution, says: &Says, random: &mut Random) -> Result<Ran, S
     // The reader passed it on WB; where a semaphore lies elsewhere it is refused, and where an access lies on two lines that differ.
     claimed("check", by_reference, Ok(()))?;
     chain_tables(execution, &bytes)?;
-    copies(&bytes)?;
+    let copy = copies(&bytes)?;
+    comparisons(execution, &bytes, &copy)?;
     match says {
         Says::Refused(_) => Ok(ONE),
         Says::Operations(count) => operations(&bytes, *count).map(|()| ONE),
@@ -206,7 +208,18 @@ fn searched(execution: &Execution, bytes: &[u8], random: &mut Random) -> Result<
         Some(counted) => by_sets(counted, &whole)?,
         None => whole.uncounted = 1,
     }
+    renumbered(execution, &whole)?;
     Ok(whole)
+}
+
+/// With other processor numbers the mark is the same. An order may be found later, and is not waited for.
+fn renumbered(execution: &Execution, whole: &Found) -> Result<(), String> {
+    let bytes = opposite(execution).to_bytes();
+    let reply = proved_search(&bytes, &mut fresh(execution), 0, MOST_STEPS);
+    match reply.answer {
+        SearchAnswer::Unfinished => Ok(()),
+        answer => same("the mark with other numbers", answer, whole.reply.answer),
+    }
 }
 
 /// Some consistent prefix is full where the search finds an order; where it finds none, it walked over all of them.
@@ -290,7 +303,10 @@ fn refused(bytes: &[u8], question: u8) -> Result<(), String> {
     let table = proved::chain_table(bytes, &mut []);
     claimed("chain table", table, Err(question))?;
     let copy = proved::solvers_copy(bytes, &mut []);
-    claimed("solvers' copy", copy, Err(question))
+    claimed("solvers' copy", copy, Err(question))?;
+    let comparison = proved_compare(bytes, bytes);
+    claimed("comparison", comparison, Err(question))?;
+    claimed("first record", proved::first(bytes, bytes), &[])
 }
 
 /// The proved library takes a chain table of N x N bytes, and none that is a byte shorter (for N = 0 there is none).
@@ -319,14 +335,37 @@ fn chain_tables(execution: &Execution, bytes: &[u8]) -> Result<(), String> {
     }
 }
 
-/// The solvers' copy, with room for more.
-fn copies(bytes: &[u8]) -> Result<(), String> {
+/// The solvers' copy, made with room for more.
+fn copies(bytes: &[u8]) -> Result<Vec<u8>, String> {
     let fresh = vec![UNTOUCHED; bytes.len() + 3];
     let (mut buffer, mut other) = (fresh.clone(), fresh);
     let answer = proved::solvers_copy(bytes, &mut buffer);
     let expected = solvers::solvers_copy(bytes, &mut other);
     same("the solvers' copy", answer, expected)?;
-    same("the bytes of the solvers' copy", &buffer, &other)
+    same("the bytes of the solvers' copy", &buffer, &other)?;
+    buffer.truncate(bytes.len());
+    Ok(buffer)
+}
+
+/// The execution with its processors in the opposite order.
+fn opposite(execution: &Execution) -> Execution {
+    let order: Vec<usize> = (0..execution.processors).rev().collect();
+    renumbering::renumbered(execution, &order)
+}
+
+/// The record is equal to itself with other processor numbers, and stands to its solvers' copy as the reference says; the first of
+/// each two is handed back.
+fn comparisons(execution: &Execution, bytes: &[u8], copy: &[u8]) -> Result<(), String> {
+    let other = opposite(execution).to_bytes();
+    let equal = proved_compare(bytes, &other);
+    same("the comparison with other numbers", equal, Ok(Order::Equal))?;
+    for (left, right) in [(bytes, copy), (copy, bytes), (bytes, &other)] {
+        let expected = renumbering::compare(left, right);
+        same("the comparison", proved_compare(left, right), expected)?;
+        let expected = renumbering::first(left, right);
+        same("the first record", proved::first(left, right), expected)?;
+    }
+    Ok(())
 }
 
 /// A byte of a lent table: one of the N x N marks, or past them.

@@ -78,7 +78,7 @@ impl Sections {
 }
 
 /// The byte of a count. One that has none fails question 3, 5 or 12, where the walk comes to it, as 255 does.
-fn count(number: usize) -> u8 {
+pub(super) fn count(number: usize) -> u8 {
     u8::try_from(number).unwrap_or(u8::MAX)
 }
 
@@ -120,4 +120,9 @@ fn entry(instruction: &Instruction) -> Vec<u8> {
     entry.extend(data);
     entry.truncate(entry_length(kind as u8, size));
     entry
+}
+
+/// The bytes of an instruction in the record: the entry without its processor.
+pub(super) fn entry_of_record(instruction: &Instruction) -> Vec<u8> {
+    entry(instruction).split_off(KIND_AT)
 }
