@@ -323,10 +323,10 @@ member_in (x ∷ xs) a h = go (eqb x a) refl (member_in xs a) h
     go true e f k = Memᴰ.head (sym (eqb-true x a e))
     go false e f k = Memᴰ.tail (f k)
 
-pub in_member : {l : List ℕ} {a : ℕ} → Memᴰ a l → member l a ≡ true
+pub in_member : {a : ℕ} {l : List ℕ} → Memᴰ a l → member l a ≡ true
 unfolding member
-in_member {l} {a} (Memᴰ.head {x = x} {xs = xs} e) = rw (eq-eqb x a (sym e))
-in_member {l} {a} (Memᴰ.tail {x = x} {xs = xs} m) = go (eqb x a) (in_member m)
+in_member {a} {l} (Memᴰ.head {x = x} {xs = xs} e) = rw (eq-eqb x a (sym e))
+in_member {a} {l} (Memᴰ.tail {x = x} {xs = xs} m) = go (eqb x a) (in_member m)
   where
     go : (b : Bool) → member xs a ≡ true → (b || member xs a) ≡ true
     go true k = refl

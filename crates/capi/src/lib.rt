@@ -54,7 +54,7 @@ pub extern "C" fn oglindesh_chains(bytes: &[u8], table: &mut [u8]) -> u32
 
 // The answer as a number, the steps made, and the length of the position that is left at the front of the buffer.
 #[repr(C)]
-#[derive(Drop)]
+#[derive(Clone, Copy)]
 pub struct SearchReply {
     pub answer: u32,
     pub steps: u32,
@@ -102,7 +102,7 @@ pub extern "C" fn oglindesh_search(
 
 // The answer as a number, and the length of the record that is written at the front of the buffer.
 #[repr(C)]
-#[derive(Drop)]
+#[derive(Clone, Copy)]
 pub struct RecordReply {
     pub answer: u32,
     pub length: usize,

@@ -14,7 +14,7 @@ row_record = record_of (wb ∷ wb ∷ []) ((st x 1 ∷ []) ∷ (ld_acq x 1 ∷ l
 unfoldable pub row_execution : execution.Execution
 row_execution = record {
   processors = 2;
-  lines = record { attribute = execution.Wb; initial = replicate 8 0 } ∷ record { attribute = execution.Wb; initial = replicate 8 0 } ∷ [];
+  lines = record { attribute = execution.WB; initial = replicate 8 0 } ∷ record { attribute = execution.WB; initial = replicate 8 0 } ∷ [];
   instructions =
       record { number = 0; first = 0; processor = 0; kind = execution.st; address = 0; size = 1; seen = []; wrote = 1 ∷ [] }
       ∷ record { number = 1; first = 3; processor = 1; kind = execution.ld_acq; address = 0; size = 1; seen = 1 ∷ []; wrote = [] }

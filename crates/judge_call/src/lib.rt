@@ -12,7 +12,7 @@ use relation_links::operations::operations_of;
 use relation_marks::between::all_marks;
 use relation_places::place_all;
 
-#[derive(Drop)]
+#[derive(Clone, Copy)]
 pub enum Judgement {
     Refused(u8),
     Legal,

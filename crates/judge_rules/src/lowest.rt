@@ -18,7 +18,7 @@ use relation_links::operations::Operations;
 const RULES: u8 = 16;
 
 // No rule, or the lowest, by its number.
-#[derive(Drop)]
+#[derive(Clone, Copy)]
 pub enum Lowest {
     Unbroken,
     Broken(u8),

@@ -16,7 +16,7 @@ use record_decoded::types::{
 use relation_places::{ABSENT, before, place_of};
 
 // The latest so far: the place after its operation, 0 with none, and the byte it gives.
-#[derive(Drop)]
+#[derive(Clone, Copy)]
 struct Latest {
     next: usize,
     value: u8,

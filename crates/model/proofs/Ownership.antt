@@ -4,7 +4,7 @@ use native.Mathlib.Omega.{arith}
 use mathlib.Core.Path.{◌≡◌, refl, sym, ap, ◌∙◌, subst}
 use mathlib.Core.Bool.{true}
 use mathlib.Core.List.Memᴰ
-use mathlib.Core.List.{List, ◌∷◌, Memᴰ}
+use mathlib.Core.List.{List, [], ◌∷◌, Memᴰ}
 use lib.ListN.{length, get_or}
 use Rattle.base.proofs.Bools.{and_parts}
 use Rattle.base.proofs.Lists.{in_keep, of_keep, in_for, of_for, in_below, of_below, place_of}
@@ -39,12 +39,14 @@ module _ (p : ℕ) where
   -- Instructions numbered one after the other
 
   consecutive_from : (at n : ℕ) (is : List Instruction) → Consecutive p at n is → {i : Instruction} → Memᴰ i is → at ≤ i.first
+  consecutive_from at n [] l {i = i} m = elim m [ ]
   consecutive_from at n (j ∷ is) l {i} (Memᴰ.head e) = let f : i.first ≡ j.first = ap (λ (k : Instruction). k.first) e in omega (arith, l.0)
   consecutive_from at n (j ∷ is) l (Memᴰ.tail m) = let h = consecutive_from (at + length (roles p j.kind)) (suc n) is l.2 m in omega arith
 
   -- a number that lies among those of two instructions: they are one
   one_instruction : (at n : ℕ) (is : List Instruction) → Consecutive p at n is → {i j : Instruction} → Memᴰ i is → Memᴰ j is → (a : ℕ)
       → i.first ≤ a → a < i.first + length (roles p i.kind) → j.first ≤ a → a < j.first + length (roles p j.kind) → i ≡ j
+  one_instruction at n [] l {i = i} {j = j} m _ a h1 h2 h3 h4 = elim m [ ]
   one_instruction at n (k ∷ is) l (Memᴰ.head e) (Memᴰ.head f) a h1 h2 h3 h4 = e ∙ sym f
   one_instruction at n (k ∷ is) l {i} {j} (Memᴰ.head e) (Memᴰ.tail m) a h1 h2 h3 h4 =
       let h : a < k.first + length (roles p k.kind) = subst (λ (i : Instruction). a < i.first + length (roles p i.kind)) e h2 in

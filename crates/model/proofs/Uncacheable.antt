@@ -11,7 +11,7 @@ use borrow.Author.Tests.{eq-eqb, ne_eqb, eqb-true, lt-ltb, ltb-true}
 use Rattle.base.specs.Lists.{any, keep, when, for, count, below, member}
 use Rattle.base.proofs.Bools.{split, agree, and_parts, and_both}
 use Rattle.base.proofs.Lists.{any_witness, any_member, any_map, member_any, in_below, of_below}
-use Rattle.model.specs.Execution.{Attribute, Wb, UC, WC, attribute_number, attribute_of, attributes, is_WB, is_UC, same_domain, Line, no_line, Instruction, Execution, Operation, is_release, R, LV, number_of, operations, all_operations, every_processor, stores, loads, semaphores, line_at, attribute_at, initial_byte}
+use Rattle.model.specs.Execution.{Attribute, WB, UC, WC, attribute_number, attribute_of, attributes, is_WB, is_UC, same_domain, Line, no_line, Instruction, Execution, Operation, is_release, R, LV, number_of, operations, all_operations, every_processor, stores, loads, semaphores, line_at, attribute_at, initial_byte}
 use Rattle.model.specs.Questions.{question4, line_of}
 use Rattle.model.specs.Rules.{is_R_or_LV, earlier, paired, link8, in_WB, in_UC, in_one_domain, link13, Claim, never, sees, addresses, overlap, RV_own, links_of, conflict, for_conflicts, rule9, rule10, sight_of, rule11, remote_of, rule12, rule14, rule16, rules}
 use Rattle.model.specs.Calls.{judge_order, judge_call, search_saved, search_reply, searching, search_call, table_marks, table_reply, tabling, table_call}
@@ -23,7 +23,7 @@ use Rattle.model.proofs.Walked.{Begins, begins, attribute_place}
 -- Attributes and their numbers
 
 read_back : (a : Attribute) → attribute_of (attribute_number a) ≡ a
-read_back Wb = refl
+read_back WB = refl
 read_back WC = refl
 read_back (UC d) =
     rw (ne_eqb (1 + 16 * d) 0 (λ z. omega arith), eq-eqb ((1 + 16 * d) % 16) 1 (omega arith)) (ap UC (omega arith))
@@ -56,7 +56,7 @@ unfolding question4 attributes member
 question4_is n = ap (λ (t : Bool). eqb 0 n || (eqb 2 n || t)) (domains_are 4 n)
 
 -- what document 01's question 4 passed
-passed_before : (n : ℕ) → n ≤ 2 → (question4 n ≡ true) × (attribute_of n ≡ get_or (Wb ∷ UC 0 ∷ []) n WC)
+passed_before : (n : ℕ) → n ≤ 2 → (question4 n ≡ true) × (attribute_of n ≡ get_or (WB ∷ UC 0 ∷ []) n WC)
 unfolding question4 attributes member below count
 passed_before zero h = (refl, refl)
 passed_before (suc zero) h = (refl, refl)
@@ -69,19 +69,19 @@ attribute_numbers = (read_back, numbered, passed_before)
 -- Only rule 13 minds the domains
 
 same_WB : (a : Attribute) → is_WB (without_domain a) ≡ is_WB a
-same_WB Wb = refl
+same_WB WB = refl
 same_WB WC = refl
 same_WB (UC d) = refl
 
 same_UC : (a : Attribute) → is_UC (without_domain a) ≡ is_UC a
-same_UC Wb = refl
+same_UC WB = refl
 same_UC WC = refl
 same_UC (UC d) = refl
 
 both_UC : (a b : Attribute) → same_domain (without_domain a) (without_domain b) ≡ (is_UC a && is_UC b)
-both_UC Wb b = refl
+both_UC WB b = refl
 both_UC WC b = refl
-both_UC (UC d) Wb = refl
+both_UC (UC d) WB = refl
 both_UC (UC d) WC = refl
 both_UC (UC d) (UC c) = refl
 

@@ -4,7 +4,7 @@ use mathlib.Core.List.{List, [], ◌∷◌, ◌++◌, map, Memᴰ}
 use Rattle.base.specs.Lists.{member, distinct}
 use Rattle.base.specs.Lex.{Less}
 use Rattle.base.specs.Orders.{OrderOf}
-use Rattle.model.specs.Execution.{Kind, is_load, is_store, is_acquire, is_release, is_fence, Attribute, Wb, UC, WC, attribute_number, attribute_of, Line, Instruction, Execution, Operation, operations, semaphores, line_at, lines_from, attribute_at}
+use Rattle.model.specs.Execution.{Kind, is_load, is_store, is_acquire, is_release, is_fence, Attribute, WB, UC, WC, attribute_number, attribute_of, Line, Instruction, Execution, Operation, operations, semaphores, line_at, lines_from, attribute_at}
 use Rattle.model.specs.Questions.{at, line_length, initial_place, question2, question3, question4, line_of}
 use Rattle.model.specs.Rules.{accesses, is_R_or_LV, earlier, link8, in_UC, link13, Claim, must, sees, links_of, sight_of, rules, local, broken, keeps, consistent}
 use Rattle.model.specs.ProgramOrder.{marks}
@@ -82,11 +82,11 @@ abbrev pub AttributeNumbers : Type 0
 AttributeNumbers =
     ((a : Attribute) → attribute_of (attribute_number a) ≡ a)
     × ((n : ℕ) → question4 n ≡ true → attribute_number (attribute_of n) ≡ n)
-    × ((n : ℕ) → n ≤ 2 → (question4 n ≡ true) × (attribute_of n ≡ get_or (Wb ∷ UC 0 ∷ []) n WC))
+    × ((n : ℕ) → n ≤ 2 → (question4 n ≡ true) × (attribute_of n ≡ get_or (WB ∷ UC 0 ∷ []) n WC))
 
 -- the attribute, with domain 0 for every domain
 abbrev pub without_domain : Attribute → Attribute
-without_domain Wb = Wb
+without_domain WB = WB
 without_domain (UC d) = UC 0
 without_domain WC = WC
 

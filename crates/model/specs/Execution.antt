@@ -100,43 +100,43 @@ is_only_store k = is_store k && not (is_load k)
 
 -- The attribute of a line. UC d is uncacheable memory of peripheral domain d.
 pub data Attribute : Type 0 where
-  Wb WC : Attribute
+  WB WC : Attribute
   UC : ℕ → Attribute
 
 -- its number in the record
 abbrev pub attribute_number : Attribute → ℕ
-attribute_number Wb = 0
+attribute_number WB = 0
 attribute_number (UC d) = 1 + 16 * d
 attribute_number WC = 2
 
--- the attribute of a number: 0 is Wb, 1 + 16 d is UC d, 2 and all others are WC
+-- the attribute of a number: 0 is WB, 1 + 16 d is UC d, 2 and all others are WC
 abbrev pub attribute_of : ℕ → Attribute
-attribute_of a = cond (eqb a 0) Wb (cond (eqb (a % 16) 1) (UC (a / 16)) WC)
+attribute_of a = cond (eqb a 0) WB (cond (eqb (a % 16) 1) (UC (a / 16)) WC)
 
 -- the attributes that a record may have: domains are 0 to 3
 unfoldable pub attributes : List Attribute
-attributes = Wb ∷ WC ∷ map UC (below 4)
+attributes = WB ∷ WC ∷ map UC (below 4)
 
 abbrev pub is_WB : Attribute → Bool
-is_WB Wb = true
+is_WB WB = true
 is_WB (UC d) = false
 is_WB WC = false
 
 -- UC, of any domain
 abbrev pub is_UC : Attribute → Bool
-is_UC Wb = false
+is_UC WB = false
 is_UC (UC d) = true
 is_UC WC = false
 
 -- UC of domain d
 abbrev pub is_UC_of : ℕ → Attribute → Bool
-is_UC_of d Wb = false
+is_UC_of d WB = false
 is_UC_of d (UC c) = eqb d c
 is_UC_of d WC = false
 
 -- both are UC, of one domain
 abbrev pub same_domain : Attribute → Attribute → Bool
-same_domain Wb b = false
+same_domain WB b = false
 same_domain (UC d) b = is_UC_of d b
 same_domain WC b = false
 

@@ -11,7 +11,7 @@ use record_form::lex::{LexOrder, lex_order};
 use record_reader::reader::{Answer, read};
 use record_writer::compose::MAX_RECORD;
 
-#[derive(Drop)]
+#[derive(Clone, Copy)]
 pub enum Compared {
     Equal,
     LeftFirst,
@@ -63,7 +63,7 @@ pub fn compare(left: &[u8], right: &[u8]) -> Compared
 }
 
 // The left record, the right one, or the empty part of the left one.
-#[derive(Drop)]
+#[derive(Clone, Copy)]
 pub enum HandedBack {
     Left,
     Right,

@@ -6,7 +6,7 @@ use Rattle.record_decoded.specs.declared.kind.Kind.TheVariants.{Ld, LdAcq, St, S
 use Rattle.record_decoded.specs.declared.kind.Role.{Role}
 use Rattle.record_decoded.specs.declared.kind.Role.TheVariants.{R, LV, F, RV}
 use Rattle.record_decoded.specs.declared.kind.Attribute.{Attribute}
-use Rattle.record_decoded.specs.declared.kind.Attribute.TheVariants.{Wb, UC, WC}
+use Rattle.record_decoded.specs.declared.kind.Attribute.TheVariants.{WB, UC, WC}
 
 -- a kind of the code as that of the model
 abbrev pub meant : Kind → model.Kind
@@ -54,6 +54,6 @@ role_processor (RV q) = q
 
 -- an attribute of the code as that of the model
 abbrev pub attribute_meant : Attribute → model.Attribute
-attribute_meant Wb = model.Wb
+attribute_meant WB = model.WB
 attribute_meant (UC d) = model.UC d
 attribute_meant WC = model.WC

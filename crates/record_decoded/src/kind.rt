@@ -6,7 +6,7 @@ ghost use Rattle.record_decoded.specs.Kinds.{meant, RowNumber, role_meant, role_
 
 use crate::types::{OperationNo, VALUE_LENGTH, wide, wide16};
 
-#[derive(Drop)]
+#[derive(Clone, Copy)]
 pub enum Kind {
     Ld,
     LdAcq,
@@ -182,7 +182,7 @@ pub fn before_remotes(k: Kind) -> usize
 }
 
 // What an operation is to its instruction; RV with the processor that it is visible to.
-#[derive(Drop)]
+#[derive(Clone, Copy)]
 pub enum Role {
     R,
     LV,
@@ -247,7 +247,7 @@ pub fn operation_count(k: Kind, processors: usize) -> usize
 }
 
 // The attribute of a line; UC with its peripheral domain.
-#[derive(Drop)]
+#[derive(Clone, Copy)]
 pub enum Attribute {
     WB,
     UC(u8),

@@ -4,7 +4,7 @@ ghost use Rattle.std.proofs.Math.ListN as ListN;
 ghost use Rattle.std.proofs.Math.Seq.{paste};
 ghost use Rattle.record_decoded.specs.Positions.{position_of};
 
-#[derive(Drop)]
+#[derive(Clone, Copy)]
 pub struct Position {
     pub length: usize,
     pub entries: [u8; Position::LIMIT],

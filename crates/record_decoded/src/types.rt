@@ -28,15 +28,15 @@ pub const MOST_PAIRS: u8 = 40;
 pub const DATA_STRIDE: usize = 16;
 
 // The number of an instruction, from 0 through the record.
-#[derive(Drop)]
+#[derive(Clone, Copy)]
 pub struct InstructionNo(pub usize);
 
 // The number of an operation, from 0 through the record.
-#[derive(Drop)]
+#[derive(Clone, Copy)]
 pub struct OperationNo(pub usize);
 
 // The lines of memory. Their initial bytes stay in the record (`initial_byte`).
-#[derive(Drop)]
+#[derive(Clone, Copy)]
 pub struct Lines {
     pub count: usize,
     pub attributes: [u8; MOST_LINES as usize],
@@ -44,7 +44,7 @@ pub struct Lines {
 
 // The instructions by number, and the number of their operations. Instruction i's data are the DATA_STRIDE of `bytes` from
 // DATA_STRIDE * i on.
-#[derive(Drop)]
+#[derive(Clone, Copy)]
 pub struct Instructions {
     pub count: usize,
     pub operations: usize,
@@ -57,14 +57,14 @@ pub struct Instructions {
 }
 
 // The dependence pairs: numbers of the earlier and the later instruction.
-#[derive(Drop)]
+#[derive(Clone, Copy)]
 pub struct Pairs {
     pub count: usize,
     pub earlier: [u8; MOST_PAIRS as usize],
     pub later: [u8; MOST_PAIRS as usize],
 }
 
-#[derive(Drop)]
+#[derive(Clone, Copy)]
 pub struct Execution {
     pub processors: usize,
     pub lines: Lines,
@@ -73,14 +73,14 @@ pub struct Execution {
 }
 
 // What reading a part of the record comes to: the question that fails, or the index after what was read.
-#[derive(Drop)]
+#[derive(Clone, Copy)]
 pub enum Step {
     Refused(u8),
     Next(usize),
 }
 
 // What the questions of one item come to: it passes, and is so many bytes long; or the question that fails.
-#[derive(Drop)]
+#[derive(Clone, Copy)]
 pub enum Asked {
     Pass(usize),
     Fail(u8),

@@ -1,7 +1,7 @@
 // The lexicographic order of bytes.
 ghost use Rattle.record_form.specs.Lexical.{LexOrdered};
 
-#[derive(Drop)]
+#[derive(Clone, Copy)]
 pub enum LexOrder {
     Less,
     Same,

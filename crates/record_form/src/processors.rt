@@ -13,7 +13,7 @@ use record_decoded::types::{
 use record_programs::more_length;
 
 // How many instructions the processors below one have, and how many bytes their entries.
-#[derive(Drop)]
+#[derive(Clone, Copy)]
 pub struct Lower {
     pub count: usize,
     pub bytes: usize,
@@ -36,7 +36,7 @@ fn count_lower(is: Instructions, p: usize) -> Lower
 }
 
 // For each processor where its program begins in the record, and how many instructions stand before it. Behind the last: where the programs end, and their instructions.
-#[derive(Drop)]
+#[derive(Clone, Copy)]
 pub struct Starts {
     pub places: [usize; MOST_PROCESSORS as usize + 1],
     pub firsts: [usize; MOST_PROCESSORS as usize + 1],
@@ -79,7 +79,7 @@ fn lowered(b: u8, n: usize) -> u8
 const PAIRS_END: u8 = 255;
 
 // The pairs of one processor as bytes, PAIRS_END behind them; with it they are so many bytes.
-#[derive(Drop)]
+#[derive(Clone, Copy)]
 pub struct OwnPairs {
     pub bytes: [u8; PAIR_LENGTH * MOST_PAIRS as usize + 1],
     pub length: usize,

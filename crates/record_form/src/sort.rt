@@ -51,7 +51,7 @@ fn key_less(bytes: &[u8], x: Execution, starts: Starts, a: usize, b: usize) -> b
 }
 
 // The processors in some order, by their numbers.
-#[derive(Drop)]
+#[derive(Clone, Copy)]
 pub struct Order {
     pub processors: [u8; MOST_PROCESSORS as usize],
 }

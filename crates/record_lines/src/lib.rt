@@ -7,7 +7,7 @@ ghost use Rattle.record_decoded.specs.Steps.{Answered, ComesTo};
 use record_decoded::kind::is_attribute;
 use record_decoded::types::{Asked, LINE_LENGTH, Lines, MOST_LINES, Step};
 
-#[derive(Drop)]
+#[derive(Clone, Copy)]
 pub struct LinesRead {
     pub step: Step,
     pub lines: Lines,

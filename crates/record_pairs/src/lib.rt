@@ -9,7 +9,7 @@ use record_decoded::types::{
     Asked, InstructionNo, Instructions, MOST_PAIRS, PAIR_LENGTH, Pairs, Step, wide,
 };
 
-#[derive(Drop)]
+#[derive(Clone, Copy)]
 pub struct PairsRead {
     pub step: Step,
     pub pairs: Pairs,

@@ -15,7 +15,7 @@ use record_decoded::types::{
     WIDE_SIZE, copy_bytes, wide,
 };
 
-#[derive(Drop)]
+#[derive(Clone, Copy)]
 pub struct InstructionsRead {
     pub step: Step,
     pub instructions: Instructions,

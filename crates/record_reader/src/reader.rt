@@ -9,14 +9,14 @@ use record_lines::{no_lines, read_lines};
 use record_pairs::{no_pairs, read_pairs};
 use record_programs::{no_instructions, read_instructions};
 
-#[derive(Drop)]
+#[derive(Clone, Copy)]
 pub enum Answer {
     Accepted,
     Refused(u8),
 }
 
 // The answer, and where it is Accepted the execution. Its initial bytes stay in the record.
-#[derive(Drop)]
+#[derive(Clone, Copy)]
 pub struct Reading {
     pub answer: Answer,
     pub execution: Execution,

@@ -6,7 +6,7 @@ use lib.ListN.{take, drop}
 use Rattle.base.specs.Lists.{all, any, keep, for, count, below, member, same, distinct}
 use Rattle.base.specs.Lex.{lex_less, least}
 use Rattle.base.specs.Orders.{lists_below, orders_below, insert, sorted}
-use Rattle.model.specs.Execution.{Wb, WC, UC, roles, operation_count, attributes, lines_from}
+use Rattle.model.specs.Execution.{WB, WC, UC, roles, operation_count, attributes, lines_from}
 use Rattle.model.specs.Questions.{next, item, byte, ask, question2, question3, question4, question5, question6, question7, question8, question26, question27, question9, question11, question12, question13, question14, question15, many, line_of, read_line, read_lines, seen_of, wrote_of, instruction_of, read_instruction, read_program, read_programs, read_instructions, read_pair, read_pairs, read_record}
 use Rattle.model.specs.Calls.{says, and_then, answer_of, read_all}
 use Rattle.model.specs.Notation.{zeros, record_of}
@@ -30,13 +30,13 @@ pub row_own : renumbered (reader_writer_execution WC 5) (below 2) ≡ take 2 (re
 unfolding reader_writer_execution
 row_own = own_form (reader_writer 2 5) (reader_writer_execution WC 5) forms_row.1
 
-pub row_accepted : RenumberedRecord (writer_reader_execution (UC 0) 5) (1 ∷ 0 ∷ []) (reader_writer_execution Wb 5)
+pub row_accepted : RenumberedRecord (writer_reader_execution (UC 0) 5) (1 ∷ 0 ∷ []) (reader_writer_execution WB 5)
 unfolding writer_reader_execution distinct member
 row_accepted =
     let e = writer_reader_execution (UC 0) 5 in
     let (f, h, anew) = renumbered_is_accepted (writer_reader 1 5) e forms_row.0 (1 ∷ 0 ∷ []) (refl, refl) in
-    let said : says (reader_writer_execution Wb 5) ≡ says f = sym forms_row.11 ∙ ap read_all (sym forms_row.10) ∙ h in
-    let z : f ≡ reader_writer_execution Wb 5 = cc in
+    let said : says (reader_writer_execution WB 5) ≡ says f = sym forms_row.11 ∙ ap read_all (sym forms_row.10) ∙ h in
+    let z : f ≡ reader_writer_execution WB 5 = cc in
     subst (RenumberedRecord e (1 ∷ 0 ∷ [])) z anew
 
 pub row_sorted : smallest_form (reader_writer_execution WC 5) ≡ renumbered (reader_writer_execution WC 5) (sorted_processors (reader_writer_execution WC 5))

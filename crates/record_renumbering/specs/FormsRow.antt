@@ -19,7 +19,7 @@ unfoldable pub reader_writer : ℕ → ℕ → List ℕ
 reader_writer attribute value = record_of (wb ∷ zeros attribute ∷ []) (reader ∷ (st x value ∷ []) ∷ []) ((0, 1) ∷ [])
 
 abbrev lines_with : execution.Attribute → List execution.Line
-lines_with attribute = record { attribute = execution.Wb; initial = replicate 8 0 } ∷ record { attribute = attribute; initial = replicate 8 0 } ∷ []
+lines_with attribute = record { attribute = execution.WB; initial = replicate 8 0 } ∷ record { attribute = attribute; initial = replicate 8 0 } ∷ []
 
 unfoldable pub writer_reader_execution : execution.Attribute → ℕ → execution.Execution
 writer_reader_execution attribute value = record {
@@ -61,4 +61,4 @@ FormsRow =
     × Equal (writer_reader 1 6) (reader_writer 0 6)
     × LeftFirst (writer_reader 1 6) (writer_reader 1 7)
     × (renumbered (writer_reader_execution (execution.UC 0) 5) (1 ∷ 0 ∷ []) ≡ reader_writer 0 5)
-    × (read_all (reader_writer 0 5) ≡ says (reader_writer_execution execution.Wb 5))
+    × (read_all (reader_writer 0 5) ≡ says (reader_writer_execution execution.WB 5))

@@ -14,7 +14,7 @@ row_record a b c d = record_of (wb ∷ wb ∷ []) ((st x 7 ∷ []) ∷ [] ∷ (l
 unfoldable pub row_execution : ℕ → ℕ → ℕ → ℕ → execution.Execution
 row_execution a b c d = record {
   processors = 3;
-  lines = record { attribute = execution.Wb; initial = replicate 8 0 } ∷ record { attribute = execution.Wb; initial = replicate 8 0 } ∷ [];
+  lines = record { attribute = execution.WB; initial = replicate 8 0 } ∷ record { attribute = execution.WB; initial = replicate 8 0 } ∷ [];
   instructions =
       record { number = 0; first = 0; processor = 0; kind = execution.st; address = 0; size = 1; seen = []; wrote = 7 ∷ [] }
       ∷ record { number = 1; first = 4; processor = 2; kind = execution.ld_acq; address = 0; size = 1; seen = a ∷ []; wrote = [] }

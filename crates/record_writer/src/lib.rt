@@ -12,14 +12,14 @@ use record_reader::reader::{Answer, read};
 pub mod compose;
 pub mod entries;
 
-#[derive(Drop)]
+#[derive(Clone, Copy)]
 pub enum WriteAnswer {
     Done,
     Refused(u8),
 }
 
 // The answer, and the length of the record that is written; 0 where the call is refused.
-#[derive(Drop)]
+#[derive(Clone, Copy)]
 pub struct WriteReply {
     pub answer: WriteAnswer,
     pub length: usize,

@@ -17,7 +17,7 @@ pub mod closure;
 pub mod rows;
 pub mod square;
 
-#[derive(Drop)]
+#[derive(Clone, Copy)]
 pub enum TableAnswer {
     Done,
     Refused(u8),

@@ -10,7 +10,7 @@ use record_decoded::kind::{kind_of, operation_count, role_of};
 use record_decoded::position::Position;
 use record_decoded::types::{InstructionNo, Instructions};
 
-#[derive(Drop)]
+#[derive(Clone, Copy)]
 pub struct Operations {
     pub count: usize,
     pub owners: [u8; Position::LIMIT],

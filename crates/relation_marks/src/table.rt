@@ -77,7 +77,7 @@ fn smaller(a: usize, b: usize) -> usize
 }
 
 // The bytes that two accesses share, by their addresses: those from `from` to before `end`, so none where `end` is not above `from`.
-#[derive(Drop)]
+#[derive(Clone, Copy)]
 pub struct SharedBytes {
     pub from: usize,
     pub end: usize,

@@ -9,7 +9,7 @@ use record_decoded::types::{OperationNo, wide};
 pub const ABSENT: u8 = 255;
 
 // Whether the entries are different operations below `n`, and if so the place of each.
-#[derive(Drop)]
+#[derive(Clone, Copy)]
 pub struct Placing {
     pub distinct: bool,
     pub places: [u8; Position::LIMIT],

@@ -20,7 +20,7 @@ use search_enabled::affected_by;
 use search_resume::steps::{Verdict, search_from};
 use search_rows::table::put_rows;
 
-#[derive(Drop)]
+#[derive(Clone, Copy)]
 pub enum SearchAnswer {
     Unfinished,
     Allowed,
@@ -29,7 +29,7 @@ pub enum SearchAnswer {
 }
 
 // The answer, the steps made, and the length of the position that is left at the front of the buffer.
-#[derive(Drop)]
+#[derive(Clone, Copy)]
 pub struct SearchReply {
     pub answer: SearchAnswer,
     pub steps: u32,

@@ -14,7 +14,7 @@ use Rattle.base.proofs.Bools.{agree, split, clash, is_false, and_parts, and_both
 use Rattle.base.proofs.Lists.{in_keep}
 use Rattle.base.proofs.Tests.{some_at, any_passes}
 use Rattle.model.specs.Execution as model
-use Rattle.model.specs.Execution.{Attribute, Wb, UC, WC, is_WB, is_UC, Instruction, R, LV, RV, is_store, is_load, is_semaphore, number_of, semaphores, operations, attribute_at}
+use Rattle.model.specs.Execution.{Attribute, WB, UC, WC, is_WB, is_UC, Instruction, R, LV, RV, is_store, is_load, is_semaphore, number_of, semaphores, operations, attribute_at}
 use Rattle.model.specs.Rules.{in_UC, RV_own}
 use Rattle.model.specs.Accepted.{Accepted}
 use Rattle.record_decoded.specs.Decoded.{instruction_at, execution_of}
@@ -126,7 +126,7 @@ semaphore_same places q v m em {r} er = split (is_semaphore v.kind)
     go k f (no d) = rw (ne_eqb (RV_own v) m (λ z. d (omega arith)), ne_eqb q v.processor d) (and-false (missing_by places m))
 
 WB_not_UC : (a : Attribute) → is_WB a ≡ true → is_UC a ≡ true → ⊥
-WB_not_UC Wb w u = false≢true u
+WB_not_UC WB w u = false≢true u
 WB_not_UC WC w u = false≢true w
 WB_not_UC (UC d) w u = false≢true w
 

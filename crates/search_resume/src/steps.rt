@@ -15,7 +15,7 @@ use search_admit::{REPLACED, TABLE, WORDS};
 use search_enabled::AFFECTED;
 use search_walk::{LEVELS, WalkAnswer, walk};
 
-#[derive(Drop)]
+#[derive(Clone, Copy)]
 pub enum Verdict {
     Unfinished,
     Allowed,
@@ -23,7 +23,7 @@ pub enum Verdict {
 }
 
 // What a search comes to: its verdict, its steps and the position it leaves, if the position given is consistent.
-#[derive(Drop)]
+#[derive(Clone, Copy)]
 pub struct Outcome {
     pub consistent: bool,
     pub verdict: Verdict,

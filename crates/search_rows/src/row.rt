@@ -22,7 +22,7 @@ use search_admit::{ROW, WORDS};
 use search_constraints::{awaited_at, bypasses_at, partners_at, preds_at};
 
 // The words of an access in its line and in the next.
-#[derive(Drop)]
+#[derive(Clone, Copy)]
 pub struct TwoWords {
     pub first: u64,
     pub next: u64,

@@ -13,7 +13,7 @@ use record_decoded::types::{DATA_STRIDE, Execution, InstructionNo, MOST_INSTRUCT
 pub const ACCESS_WORDS: usize = 2 * MOST_INSTRUCTIONS;
 
 // Three words of one line.
-#[derive(Drop)]
+#[derive(Clone, Copy)]
 pub struct LineWords {
     pub bits: u64,
     pub seen: u64,
@@ -21,7 +21,7 @@ pub struct LineWords {
 }
 
 // So many bytes of a word, from one on.
-#[derive(Drop)]
+#[derive(Clone, Copy)]
 pub struct Span {
     pub first: usize,
     pub count: usize,

@@ -6,7 +6,7 @@ ghost use Rattle.search_sets.specs.Set.{holds, LowestMember};
 // The members of a set are below this number: there is room for the operations of a record.
 pub const BOUND: usize = 128;
 
-#[derive(Drop)]
+#[derive(Clone, Copy)]
 pub struct Set {
     pub lo: u64,
     pub hi: u64,

@@ -12,7 +12,7 @@ use search_enabled::{AFFECTED, enabled_after, open_after};
 use search_sets::{Set, at, first, insert, put};
 
 // The length of the next consistent prefix, or that there is none.
-#[derive(Drop)]
+#[derive(Clone, Copy)]
 pub enum WalkAnswer {
     Next(usize),
     End,

@@ -15,7 +15,7 @@ pub const CALL_LIMIT: u64 = 100;
 pub const CALL_ALLOWANCE: u32 = 1_000_000;
 
 // What the calls came to: the last answer, the steps of all, and the position that the last one left.
-#[derive(Drop)]
+#[derive(Clone, Copy)]
 pub struct Total {
     pub answer: SearchAnswer,
     pub steps: u64,

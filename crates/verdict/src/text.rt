@@ -26,7 +26,7 @@ pub fn write_word(out: &mut [u8], at: usize, word: &[u8]) -> usize
 }
 
 // The digits of a number, from the first one on.
-#[derive(Drop)]
+#[derive(Clone, Copy)]
 struct Digits {
     bytes: [u8; 20],
     first: usize,
