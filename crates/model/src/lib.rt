@@ -1,1 +1,2 @@
 // No code: document 01 as definitions, its examples computed from them, and their laws.
+#![tactic(auto)]

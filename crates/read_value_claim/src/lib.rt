@@ -1,1 +1,2 @@
 // The claim of the read-value test: no code, its proof alone.
+#![tactic(auto)]

@@ -1,1 +1,2 @@
 // The claims of the separate sections: no code, their proofs alone.
+#![tactic(auto)]

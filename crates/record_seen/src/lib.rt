@@ -1,1 +1,2 @@
 // The claims of the solvers' copy: no code, their proofs alone.
+#![tactic(auto)]

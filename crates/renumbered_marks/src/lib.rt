@@ -1,1 +1,2 @@
 // Records with processors numbered anew have one mark: a theorem, no code.
+#![tactic(auto)]

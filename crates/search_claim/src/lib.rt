@@ -1,1 +1,2 @@
 // The claims of the search: no code, their proofs alone.
+#![tactic(auto)]

@@ -1,0 +1,70 @@
+-- Each turn copies one program from where it stands in the record.
+use Prim.Native.Nat.{◌<◌}
+use native.Mathlib.Omega.{arith}
+use Rattle.record_form.proofs.PieceLaws.{programs_none, in_order_lem, place_rises, piece_there, program_room, programs_more, programs_put}
+use Rattle.record_form.proofs.LocatedLaws.{few}
+use Rattle.record_form.proofs.form.put_programs.Goals as goal
+
+-- the processor whose turn it is
+low : (c : tie.After-wide invariant-loop decreases-loop) → c.wide.result < 8
+low c =
+    let s = c.before.before.before.before.before.before.before in
+    omega (
+      arith,
+      in_order_lem s.args.x.processors s.args.t6.processors s.requires.2 c.before.before.before.loop.k c.before.before.loop-test.true c.wide.ensures.0,
+      (few s.args.bytes.now s.args.x s.requires.0).processors_few,
+    )
+
+pub loop-k-init : goal.loop-k-init
+loop-k-init c = programs_none (omega (arith, c.requires.3))
+
+pub bounds-order-k : goal.bounds-order-k
+bounds-order-k c = let s = c in omega (arith, (few s.args.bytes.now s.args.x s.requires.0).processors_few)
+
+pub offset_bounds-places-p : goal.offset_bounds-places-p
+offset_bounds-places-p c = omega (arith, low c)
+
+pub bounds-places-p : goal.bounds-places-p
+bounds-places-p c = omega (arith, low c)
+
+pub overflow_add-n : goal.overflow_add-n
+overflow_add-n c = omega (arith, low c)
+
+pub offset_bounds-places-p-in-loop-k : goal.offset_bounds-places-p-in-loop-k
+offset_bounds-places-p-in-loop-k c = omega (arith, low c)
+
+pub bounds-places-p-in-loop-k : goal.bounds-places-p-in-loop-k
+bounds-places-p-in-loop-k c = omega (arith, low c)
+
+pub overflow_sub-n : goal.overflow_sub-n
+overflow_sub-n c = let s = c in let a = s.args in place_rises a.bytes.now a.x a.starts a.t6 a.out.now a.at s.requires c.loop-k.invariant c.loop-k-test.true c.wide-p.ensures.0
+
+pub copy_bytes-requires : goal.copy_bytes-requires
+copy_bytes-requires c =
+    let s = c in
+    let a = s.args in
+    let inv = c.loop-k.invariant in
+    let more = c.loop-k-test.true in
+    let this = c.wide-p.ensures.0 in
+    (program_room a.bytes.now a.x a.starts a.t6 a.out.now a.at s.requires inv more this, piece_there a.bytes.now a.x a.starts a.t6 a.out.now a.at s.requires inv more this)
+
+pub overflow_add-next : goal.overflow_add-next
+overflow_add-next c =
+    let s = c in
+    let a = s.args in
+    let inv = c.loop-k.invariant in
+    omega (
+      arith,
+      program_room a.bytes.now a.x a.starts a.t6 a.out.now a.at s.requires inv c.loop-k-test.true c.wide-p.ensures.0,
+      inv.put.long,
+      s.well-formed.0,
+    )
+
+pub loop-k-preserved : goal.loop-k-preserved
+loop-k-preserved c = let s = c in let a = s.args in programs_more a.bytes.now a.x a.starts a.t6 a.out.now a.at s.requires c.loop-k.invariant c.loop-k-test.true c.wide-p.ensures.0 c.copy_bytes.ensures
+
+pub shape_of-out : goal.shape_of-out
+shape_of-out c = c.loop-k.invariant.put.long
+
+pub returns : goal.returns
+returns c = let s = c in let a = s.args in programs_put a.bytes.now a.x a.starts a.t6 a.out.now a.at s.requires c.loop-k.invariant c.loop-k-test.false

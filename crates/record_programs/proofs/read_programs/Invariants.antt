@@ -1,0 +1,7 @@
+-- Each turn reads one program more; what is left decides the whole.
+use Rattle.record_decoded.specs.Decoded.{attributes_of, instructions_of, Counted}
+use Rattle.record_programs.proofs.ProgramLaws.{Programs}
+use Rattle.record_programs.proofs.read_programs.Given as goal
+
+abbrev pub invariant-loop-p : goal.invariant-loop-p
+invariant-loop-p l = Programs l.processors (attributes_of l.lines) l.part l.p l.at (instructions_of l.instructions) × Counted l.processors l.instructions

@@ -1,0 +1,16 @@
+-- Two accesses share the bytes from the later start to the earlier end.
+use Prim.Native.Nat.{ℕ, ◌+◌, ◌-◌, min, max}
+use mathlib.Core.Path.{sym, ap₂, ◌∙◌}
+use Rattle.base.specs.Lists.{count}
+use Rattle.relation_marks.proofs.MarkLaws.{shared_are}
+use Rattle.relation_marks.proofs.table.shared_bytes.Goals as goal
+
+pub returns : goal.returns
+returns c =
+    let b = c in
+    let a = b.before.before.before.before.args in
+    let from = c.larger-from.ensures ∙ ap₂ max b.before.before.before.wide.ensures.0 b.before.wide3.ensures.0 in
+    let end = c.smaller-end.ensures
+    ∙ ap₂ min (ap₂ ◌+◌ b.before.before.before.wide.ensures.0 b.before.before.wide2.ensures.0)
+    (ap₂ ◌+◌ b.before.wide3.ensures.0 b.wide4.ensures.0) in
+    shared_are a.address a.size a.other a.extent ∙ sym (ap₂ (λ (m n : ℕ). count m (n - m)) from end)

@@ -1,0 +1,16 @@
+-- Copied whole, or left.
+use mathlib.Core.Path.{sym, ap, ◌∙◌}
+use mathlib.Core.Bool.{Bool, cond}
+use Rattle.search_resume.proofs.ReplayLaws.{pasted_whole}
+use Rattle.search_resume.proofs.steps.keep_if.Goals as goal
+
+pub returns-then-last : goal.returns-then-last
+returns-then-last c =
+    let s = c in
+    c.copy_bytes.ensures ∙ pasted_whole s.args.reached.now s.args.entries.now s.requires.0 s.requires.1
+    ∙ ap (λ (b : Bool). cond b s.args.entries.now s.args.reached.now) (sym c.if-last.true)
+
+pub returns-else-last : goal.returns-else-last
+returns-else-last c =
+    let a = c.args in
+    ap (λ (b : Bool). cond b a.entries.now a.reached.now) (sym c.if-last.false)

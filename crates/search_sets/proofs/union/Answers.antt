@@ -1,0 +1,10 @@
+-- Word by word, and in a word bit by bit.
+use mathlib.Core.Bool.{◌||◌}
+use Rattle.search_sets.proofs.Bit.{has_or}
+use Rattle.search_sets.proofs.Laws.{holds_two}
+use Rattle.search_sets.proofs.union.Goals as goal
+
+pub returns : goal.returns
+returns c k =
+    let s = c.args in
+    holds_two ◌||◌ s.a.lo s.a.hi s.b.lo s.b.hi _ _ (λ j. has_or s.a.lo s.b.lo j) (λ j. has_or s.a.hi s.b.hi j) k

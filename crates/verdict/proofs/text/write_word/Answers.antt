@@ -1,0 +1,17 @@
+-- Each turn writes one byte.
+use native.Mathlib.Omega.{arith}
+use mathlib.Core.Path.{refl}
+use Rattle.verdict.proofs.TextLaws.{writes_start, writes_turn, writes_end, appends_same, for_bytes}
+use Rattle.verdict.proofs.text.write_word.Goals as goal
+
+pub loop-i-init : goal.loop-i-init
+loop-i-init c = (refl, writes_start)
+
+pub loop-i-smaller : goal.loop-i-smaller
+loop-i-smaller c = omega arith
+
+pub loop-i-preserved : goal.loop-i-preserved
+loop-i-preserved c = (refl, writes_turn c.loop-i.invariant.1 (omega arith) c.write_byte-next.auto.0 c.write_byte-next.ensures)
+
+pub returns : goal.returns
+returns c = appends_same (for_bytes _) (writes_end c.loop-i.invariant.1 (omega arith))
