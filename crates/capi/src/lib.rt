@@ -12,8 +12,8 @@ use judge_call::Judgement;
 use record_compare::{Compared, HandedBack};
 use record_reader::reader::Answer;
 use record_writer::{WriteAnswer, WriteReply};
-use relation_chain_table::Table_answer;
-use search_call::call::Search_answer;
+use relation_chain_table::TableAnswer;
+use search_call::call::SearchAnswer;
 
 // Whether a record passes questions 1 to 15, 26 and 27: 0, or 256 + the first question that fails.
 #[unsafe(no_mangle)]

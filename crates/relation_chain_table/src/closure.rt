@@ -4,7 +4,7 @@ ghost use Rattle.relation_chain_table.specs.Squares.{MarksAre, marked, via, clos
 
 use crate::square::{is_marked, mark_of};
 use record_decoded::position::Position;
-use record_decoded::types::Operation_no;
+use record_decoded::types::OperationNo;
 use relation_marks::table::either;
 
 // The marks of two rows.

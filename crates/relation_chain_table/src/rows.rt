@@ -5,7 +5,7 @@ ghost use Rattle.relation_chain_table.specs.Squares.{row_marks, square_marks};
 
 use crate::square::{is_marked, mark_of};
 use record_decoded::position::Position;
-use record_decoded::types::Operation_no;
+use record_decoded::types::OperationNo;
 
 // The n marks of one row.
 fn write_row(

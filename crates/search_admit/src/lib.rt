@@ -8,7 +8,7 @@ ghost use Rattle.search_admit.specs.Rows.{row_length, field, written_word, visib
 ghost use Rattle.search_admit.specs.Fits.{both_or_neither, waits_for, refused, local_bit, bit_agrees, reads_recorded, enabled};
 
 use record_decoded::position::Position;
-use record_decoded::types::Operation_no;
+use record_decoded::types::OperationNo;
 use relation_places::before;
 use search_sets::{BOUND, Set, first, has, minus, subset};
 

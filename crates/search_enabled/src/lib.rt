@@ -8,7 +8,7 @@ ghost use Rattle.search_admit.specs.Fits.{enabled, due_after};
 ghost use Rattle.search_enabled.specs.Affects.{reads, writes_at, Writing, affects, Affecting, enabled_after};
 
 use record_decoded::position::Position;
-use record_decoded::types::Operation_no;
+use record_decoded::types::OperationNo;
 use search_admit::{
     BYPASSES, LOCAL, PARTNERS, PREDS, TABLE, VISIBLE_WORD, WORDS, WRITTEN_BITS, WRITTEN_WORD,
     field_of, is_enabled, is_enabled_first, set_of, word_of, words_read,

@@ -11,7 +11,7 @@ mod text;
 
 use crate::calls::{Total, search_in_calls};
 use crate::text::{write_decimal, write_word};
-use search_call::call::Search_answer;
+use search_call::call::SearchAnswer;
 
 // The most bytes that are taken as the record.
 pub const INPUT_LIMIT: usize = 1024;
