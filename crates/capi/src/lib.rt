@@ -1,5 +1,6 @@
 // The calls open to C and Rust: each answer as a number. A slice passes as a pointer, then its length.
 #![tactic(auto)]
+
 ghost use Rattle.std.specs.Prelude.{◌≡◌, List, ℕ};
 ghost use Rattle.model.specs.Calls.{read_all, judge_call, table_call, search_call};
 ghost use Rattle.model.specs.Sections.{sections_from, write_call};

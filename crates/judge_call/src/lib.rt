@@ -1,5 +1,6 @@
 // The judge: whether an offered order is legal, or the lowest rule that it breaks.
 #![tactic(auto)]
+
 ghost use Rattle.std.specs.Prelude.{◌≡◌};
 ghost use Rattle.model.specs.Calls.{judge_order, judge_call};
 ghost use Rattle.model.specs.Accepted.{Accepted};

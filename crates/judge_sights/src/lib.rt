@@ -1,5 +1,6 @@
 // Rule 11, from places: whether some byte of a load that stands is not the byte that the rule gives.
 #![tactic(auto)]
+
 ghost use Rattle.std.specs.Prelude.{◌≡◌, List, ℕ, ◌<◌, ◌≤◌, get_or};
 ghost use Rattle.base.specs.Lists.{any};
 ghost use Rattle.model.specs.Rules.{rule11, broken};

@@ -1,5 +1,6 @@
 // The verdict program: reads a record from standard input and writes its verdict to standard output.
 #![tactic(auto)]
+
 ghost use Rattle.std.specs.Prelude.{◌≡◌};
 ghost use Rattle.model.specs.Verdict.{verdict_lines};
 

@@ -1,5 +1,6 @@
 // The calls that compare two records: whether they are equal but for the numbers of their processors, else which stands first; and the one that stands first.
 #![tactic(auto)]
+
 ghost use Rattle.std.specs.Prelude.{◌≡◌};
 ghost use Rattle.model.specs.Calls.{says, read_all};
 ghost use Rattle.model.specs.Renumbering.{comparison, comparing, compare_call, stands_first, first_call};

@@ -1,5 +1,6 @@
 // The decoded execution: kinds, roles, attributes, numbers, the arrays that hold an execution, the attribute and the initial bytes of memory, and positions.
 #![tactic(auto)]
+
 pub mod initial;
 pub mod kind;
 pub mod memory;

@@ -1,5 +1,6 @@
 // The section of lines.
 #![tactic(auto)]
+
 ghost use Rattle.std.specs.Prelude.{◌≡◌, List, [], ◌∷◌, ◌++◌, ℕ, ◌+◌, ◌*◌, ◌<◌, ◌≤◌, length, take, drop};
 ghost use Rattle.model.specs.Questions.{line_length, line_of, read_line, read_lines, many};
 ghost use Rattle.record_decoded.specs.Decoded.{lines_of};

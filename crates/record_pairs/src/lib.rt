@@ -1,5 +1,6 @@
 // The section of dependence pairs.
 #![tactic(auto)]
+
 ghost use Rattle.std.specs.Prelude.{◌≡◌, [], ◌∷◌, ◌++◌, ◌+◌, ◌<◌, ◌≤◌, length, drop};
 ghost use Rattle.model.specs.Questions.{pair_length, question13, question14, read_pair, read_pairs, many};
 ghost use Rattle.record_decoded.specs.Decoded.{instructions_of, pair_of, pairs_of};

@@ -1,5 +1,6 @@
 // The section of programs, one for each processor.
 #![tactic(auto)]
+
 ghost use Rattle.std.specs.Prelude.{◌≡◌, true, cond, List, [], ℕ, ◌+◌, ◌*◌, ◌<◌, ◌≤◌, length, take, drop, eqb};
 ghost use Rattle.base.specs.Lists.{all};
 ghost use Rattle.model.specs.Execution.{Instruction, is_semaphore, operation_count};

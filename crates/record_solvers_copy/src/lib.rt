@@ -1,5 +1,6 @@
 // The solvers' copy: a record with zeros in place of all that was seen.
 #![tactic(auto)]
+
 ghost use Rattle.std.specs.Prelude.{◌≡◌, true, ◌≤◌, length, ltb};
 ghost use Rattle.base.specs.Lists.{all, count};
 ghost use Rattle.record_decoded.specs.Kinds.{meant};

@@ -1,5 +1,6 @@
 // The write call: a record out of separate sections.
 #![tactic(auto)]
+
 ghost use Rattle.std.specs.Prelude.{◌≡◌, true, List, ℕ};
 ghost use Rattle.model.specs.Calls.{refuses, record_reply};
 ghost use Rattle.model.specs.Sections.{sections_from, question23, record_of, write_record, write_call};

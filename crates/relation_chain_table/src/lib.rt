@@ -1,5 +1,6 @@
 // The chain table: a mark for every two operations between which one or more links lead.
 #![tactic(auto)]
+
 ghost use Rattle.std.specs.Prelude.{◌≡◌, List, ℕ};
 ghost use Rattle.model.specs.Calls.{table_marks, table_reply, table_call};
 ghost use Rattle.model.specs.Accepted.{Accepted};

@@ -1,5 +1,6 @@
 // The places of operations in an order, as a table: which of two operations stands before the other is one comparison.
 #![tactic(auto)]
+
 ghost use Rattle.std.specs.Prelude.{◌≡◌, ◌≤◌};
 ghost use Rattle.relation_places.specs.Places.{placed, Placement, before_by};
 

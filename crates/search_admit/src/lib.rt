@@ -1,5 +1,6 @@
 // The tests of one operation more behind a consistent prefix, on compiled rows.
 #![tactic(auto)]
+
 ghost use Rattle.std.specs.Prelude.{◌≡◌, not, cond, ◌&&◌, ◌||◌, ℕ, ◌+◌, ◌*◌, ◌%◌, ◌<◌, ◌≤◌, length, get_or, set, ltb};
 ghost use Rattle.base.specs.Below.{all_below, any_below};
 ghost use Rattle.base.specs.Bits.{bit};

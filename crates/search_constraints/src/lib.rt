@@ -1,5 +1,6 @@
 // The sets of operations that the search reads, for each operation.
 #![tactic(auto)]
+
 ghost use Rattle.std.specs.Prelude.{◌≡◌, true, false, ◌&&◌, ◌||◌, ℕ, ◌<◌, ◌≤◌, get_or, eqb};
 ghost use Rattle.model.specs.Execution as model;
 ghost use Rattle.model.specs.Execution.{RV, is_store, kind_of, number_from};

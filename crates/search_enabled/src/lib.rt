@@ -1,5 +1,6 @@
 // The operations that are enabled behind a prefix, kept up entry by entry.
 #![tactic(auto)]
+
 ghost use Rattle.std.specs.Prelude.{◌≡◌, true, ◌&&◌, ◌||◌, ℕ, ◌%◌, ◌<◌, ◌≤◌, length, eqb};
 ghost use Rattle.base.specs.Below.{any_below};
 ghost use Rattle.search_sets.specs.Set.{holds, set_at};

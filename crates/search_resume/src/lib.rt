@@ -1,4 +1,5 @@
 // The search from a saved position: it is made again, and walked on from.
 #![tactic(auto)]
+
 pub mod replay;
 pub mod steps;

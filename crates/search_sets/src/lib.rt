@@ -1,5 +1,6 @@
 // Sets of numbers below 128, in two words, by value.
 #![tactic(auto)]
+
 ghost use Rattle.std.specs.Prelude.{◌≡◌, not, ◌&&◌, ◌||◌, ℕ, ◌+◌, ◌*◌, ◌<◌, ◌≤◌, length, get_or, set, eqb};
 ghost use Rattle.base.specs.Below.{all_below};
 ghost use Rattle.search_sets.specs.Set.{holds, LowestMember};

@@ -1,5 +1,6 @@
 // The walk: from a consistent prefix that is not full to the next one in lexicographic order.
 #![tactic(auto)]
+
 ghost use Rattle.std.specs.Prelude.{◌≡◌, ◌+◌, ◌*◌, ◌<◌, ◌≤◌, length, get_or, set, take};
 ghost use Rattle.search_admit.specs.Rows.{words_with, replaced_with, words_without};
 ghost use Rattle.search_enabled.specs.Affects.{Affecting};

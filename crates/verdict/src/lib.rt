@@ -1,5 +1,6 @@
 // The verdict: what the program prints for the bytes of its input.
 #![tactic(auto)]
+
 ghost use Rattle.std.specs.Prelude.{◌≡◌, ◌++◌, ◌≤◌, length, take};
 ghost use Rattle.base.specs.Lists.{for};
 ghost use Rattle.model.specs.Verdict.{input_limit, blank, line_feed, word_steps, decimal, lines, verdict_lines};

@@ -36,7 +36,6 @@ reply-is n is same case = record {
   steps_are = ap (λ (q : calls.SearchReply). q.steps) same;
   length_is = ap (λ (q : calls.SearchReply). q.length) same;
   buffer_is = ap (λ (q : calls.SearchReply). q.buffer) same;
-
 }
 
 pub returns-in-Unfinished : goal.returns-in-Unfinished

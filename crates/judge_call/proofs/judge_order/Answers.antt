@@ -1,7 +1,6 @@
 -- Each way out: questions 16 and 17, then what the lowest broken rule says.
 use native.Mathlib.Omega.{arith}
 use mathlib.Core.Path.{sym, ap, ◌∙◌}
-use borrow.Author.Tests.{not-true, not-false}
 use Rattle.record_decoded.specs.Decoded.{execution_of}
 use Rattle.record_decoded.proofs.Counts.{count_is}
 use Rattle.judge_rules.specs.Lowest.{lowest_meant}
@@ -28,7 +27,7 @@ pub returns-then-not-placing : goal.returns-then-not-placing
 returns-then-not-placing c =
     let a = c.args in
     judged_17 (execution_of a.bytes.now a.x) a.order.now _ (count_is a.bytes.now a.x _ c.operations_of-t.ensures.counts) c.if-order-n.false
-    (sym c.place_all-placing.ensures.told ∙ not-true _ c.if-not-placing.true)
+    (sym c.place_all-placing.ensures.told ∙ c.if-not-placing.true)
 
 pub all_marks-marks-requires : goal.all_marks-marks-requires
 all_marks-marks-requires c =
@@ -48,13 +47,13 @@ lowest_broken-lowest-requires c =
 pub returns-in-Unbroken : goal.returns-in-Unbroken
 returns-in-Unbroken c =
     let a = c.args in
-    let distinct = not-false _ c.if-not-placing.false in
+    let distinct = c.if-not-placing.false in
     judged_rules (execution_of a.bytes.now a.x) a.order.now _ (count_is a.bytes.now a.x _ c.operations_of-t.ensures.counts) c.if-order-n.false (sym c.place_all-placing.ensures.told ∙ distinct) _
     (ap lowest_meant (sym c.in-Unbroken.is) ∙ c.lowest_broken-lowest.ensures _ a.order.now (c.place_all-placing.ensures.places distinct))
 
 pub returns-in-Broken : goal.returns-in-Broken
 returns-in-Broken c =
     let a = c.args in
-    let distinct = not-false _ c.if-not-placing.false in
+    let distinct = c.if-not-placing.false in
     judged_rules (execution_of a.bytes.now a.x) a.order.now _ (count_is a.bytes.now a.x _ c.operations_of-t.ensures.counts) c.if-order-n.false (sym c.place_all-placing.ensures.told ∙ distinct) _
     (ap lowest_meant (sym c.in-Broken.is) ∙ c.lowest_broken-lowest.ensures _ a.order.now (c.place_all-placing.ensures.places distinct))

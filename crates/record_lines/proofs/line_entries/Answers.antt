@@ -12,12 +12,11 @@ pub line_question-asked-requires : goal.line_question-asked-requires
 line_question-asked-requires c = c.loop-i.invariant.0.room
 
 pub returns-in-Fail : goal.returns-in-Fail
-returns-in-Fail c =
-    let turn = c in (
-      going_fails turn.loop.invariant.0 c.loop-i-test.true c.line_question-asked.ensures
-          c.in-Fail.is,
-      omega (arith, turn.loop.invariant.1),
-    )
+returns-in-Fail c = (
+  going_fails c.loop-i.invariant.0 c.loop-i-test.true c.line_question-asked.ensures
+      c.in-Fail.is,
+  omega (arith, c.loop-i.invariant.1),
+)
 
 pub with_line-lines-requires : goal.with_line-lines-requires
 with_line-lines-requires c =
@@ -29,11 +28,10 @@ overflow_add-at c = omega (arith, c.line_question-asked.ensures.ends _ c.in-Pass
 
 pub loop-i-preserved : goal.loop-i-preserved
 loop-i-preserved c =
-    let turn = c in
     let more = c.with_line-lines.ensures in (
-      subst (Going (λ done. read_line) _ _ _ _ _) (sym more.1) (going_on turn.loop.invariant.0 c.loop-i-test.true c.line_question-asked.ensures c.in-Pass.is),
-      omega (arith, turn.loop.invariant.1, more.0),
-      omega (arith, turn.loop.invariant.2, c.line_question-asked.ensures.long _ c.in-Pass.is),
+      subst (Going (λ done. read_line) _ _ _ _ _) (sym more.1) (going_on c.loop-i.invariant.0 c.loop-i-test.true c.line_question-asked.ensures c.in-Pass.is),
+      omega (arith, c.loop-i.invariant.1, more.0),
+      omega (arith, c.loop-i.invariant.2, c.line_question-asked.ensures.long _ c.in-Pass.is),
     )
 
 pub returns : goal.returns

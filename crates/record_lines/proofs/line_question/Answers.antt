@@ -1,7 +1,6 @@
 -- Each way out is one answer of the line's questions.
 use native.Mathlib.Omega.{arith}
 use mathlib.Core.Path.{sym, ◌∙◌}
-use borrow.Author.Tests.{not-true, not-false}
 use Rattle.record_lines.proofs.LineLaws.{line_short, line_unknown, line_passes}
 use Rattle.record_lines.proofs.line_question.Goals as goal
 
@@ -11,9 +10,9 @@ returns-then-part-at-lt-LINE_LENGTH c = let a = c.args in line_short a.part.now 
 pub returns-then-not-is_attribute : goal.returns-then-not-is_attribute
 returns-then-not-is_attribute c =
     let a = c.args in
-    line_unknown a.part.now a.at (omega arith) (sym c.is_attribute.ensures ∙ not-true c.is_attribute.result c.if-not-is_attribute.true)
+    line_unknown a.part.now a.at (omega arith) (sym c.is_attribute.ensures ∙ c.if-not-is_attribute.true)
 
 pub returns : goal.returns
 returns c =
     let a = c.args in
-    line_passes a.part.now a.at (omega arith) (sym c.is_attribute.ensures ∙ not-false c.is_attribute.result c.if-not-is_attribute.false)
+    line_passes a.part.now a.at (omega arith) (sym c.is_attribute.ensures ∙ c.if-not-is_attribute.false)

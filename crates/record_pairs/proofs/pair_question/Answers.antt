@@ -1,7 +1,6 @@
 -- Each way out is one answer of the pair's questions.
 use native.Mathlib.Omega.{arith}
 use mathlib.Core.Path.{sym, ◌∙◌}
-use borrow.Author.Tests.{not-true, not-false}
 use Rattle.record_decoded.specs.Decoded.{instructions_of, pairs_of}
 use Rattle.record_pairs.proofs.PairLaws.{pair_short, pair_refused, pair_low, pair_good}
 use Rattle.record_pairs.proofs.pair_question.Goals as goal
@@ -15,16 +14,16 @@ pub returns-then-not-pair_passes : goal.returns-then-not-pair_passes
 returns-then-not-pair_passes c =
     let a = c.args in
     pair_refused (instructions_of a.is) (pairs_of a.x) a.part.now a.at (omega arith) c.wide-m.result c.wide-n.result c.wide-m.ensures.0 c.wide-n.ensures.0
-    (sym c.pair_passes.ensures ∙ not-true _ c.if-not-pair_passes.true)
+    (sym c.pair_passes.ensures ∙ c.if-not-pair_passes.true)
 
 pub returns-then-not-pair_above : goal.returns-then-not-pair_above
 returns-then-not-pair_above c =
     let a = c.args in
     pair_low (instructions_of a.is) (pairs_of a.x) a.part.now a.at (omega arith) c.wide-m.result c.wide-n.result c.wide-m.ensures.0 c.wide-n.ensures.0
-    (sym c.pair_passes.ensures ∙ not-false _ c.if-not-pair_passes.false) (sym c.pair_above.ensures ∙ not-true _ c.if-not-pair_above.true)
+    (sym c.pair_passes.ensures ∙ c.if-not-pair_passes.false) (sym c.pair_above.ensures ∙ c.if-not-pair_above.true)
 
 pub returns : goal.returns
 returns c =
     let a = c.args in
     pair_good (instructions_of a.is) (pairs_of a.x) a.part.now a.at (omega arith) c.wide-m.result c.wide-n.result c.wide-m.ensures.0 c.wide-n.ensures.0
-    (sym c.pair_passes.ensures ∙ not-false _ c.if-not-pair_passes.false) (sym c.pair_above.ensures ∙ not-false _ c.if-not-pair_above.false)
+    (sym c.pair_passes.ensures ∙ c.if-not-pair_passes.false) (sym c.pair_above.ensures ∙ c.if-not-pair_above.false)

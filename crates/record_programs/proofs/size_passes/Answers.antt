@@ -16,17 +16,15 @@ loop-i-init c = seeks
 
 pub returns-then-i-size : goal.returns-then-i-size
 returns-then-i-size c =
-    let b = c in
-    let a = b.before.before.before.args in
+    let a = c.args in
     meets c.loop-i.invariant c.loop-i-test.true (sym (eq-eqb _ _ c.if-i-size.true)) refl
-    ∙ size_by_index (meant a.k) a.size b.size-count.result (sym b.before.before.is-fence.ensures ∙ b.before.if1.false) b.size-count.ensures.0 b.size-count.ensures.1
+    ∙ size_by_index (meant a.k) a.size c.size_count-count.result (sym c.is_fence.ensures ∙ c.if-is_fence.false) c.size_count-count.ensures.0 c.size_count-count.ensures.1
 
 pub loop-i-preserved : goal.loop-i-preserved
 loop-i-preserved c = passes_by c.loop-i.invariant c.loop-i-test.true (sym (ne_eqb _ _ c.if-i-size.false)) refl
 
 pub returns : goal.returns
 returns c =
-    let b = c in
-    let a = b.before.before.before.args in
+    let a = c.args in
     finds_none c.loop-i.invariant c.loop-i-test.false
-    ∙ size_by_index (meant a.k) a.size b.size-count.result (sym b.before.before.is-fence.ensures ∙ b.before.if1.false) b.size-count.ensures.0 b.size-count.ensures.1
+    ∙ size_by_index (meant a.k) a.size c.size_count-count.result (sym c.is_fence.ensures ∙ c.if-is_fence.false) c.size_count-count.ensures.0 c.size_count-count.ensures.1

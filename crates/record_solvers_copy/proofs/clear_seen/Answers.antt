@@ -8,29 +8,23 @@ loop-i-init c = seen_none
 
 pub overflow_add-at : goal.overflow_add-at
 overflow_add-at c =
-    let turn = c in
-    omega (arith, place_few turn.before.loop.invariant, turn.before.loop.invariant.turns, turn.before.before.before.requires)
+    omega (arith, place_few c.loop-i.invariant, c.loop-i.invariant.turns, c.requires)
 
 pub clear-requires : goal.clear-requires
 clear-requires c =
-    let turn = c in
-    seen_room turn.before.loop.invariant (omega (arith, turn.loop-test.true)) c.kind_of-kind.ensures c.wide.ensures.0 c.seen_length.ensures turn.before.before.before.requires.2
+    seen_room c.loop-i.invariant (omega (arith, c.loop-i-test.true)) c.kind_of-kind.ensures c.wide.ensures.0 c.seen_length.ensures c.requires.2
 
 pub overflow_add-place-in-loop-i : goal.overflow_add-place-in-loop-i
 overflow_add-place-in-loop-i c =
-    let turn = c in
-    omega (arith, place_few turn.before.loop.invariant, turn.before.loop.invariant.turns, turn.before.before.before.requires)
+    omega (arith, place_few c.loop-i.invariant, c.loop-i.invariant.turns, c.requires)
 
 pub overflow_add-place-in-loop-i-2 : goal.overflow_add-place-in-loop-i-2
 overflow_add-place-in-loop-i-2 c =
-    let turn = c in
-    omega (arith, place_few turn.before.loop.invariant, turn.before.loop.invariant.turns, turn.before.before.before.requires, c.more_length.ensures.1)
+    omega (arith, place_few c.loop-i.invariant, c.loop-i.invariant.turns, c.requires, c.more_length.ensures.1)
 
 pub loop-i-preserved : goal.loop-i-preserved
 loop-i-preserved c =
-    let turn = c in
-    let seen = c in
-    seen_more turn.before.loop.invariant (omega (arith, turn.loop-test.true)) seen.before.before.before.before.before.kind-of.ensures seen.before.before.wide.ensures.0 seen.seen-length.ensures c.more_length.ensures.0 c.clear.ensures
+    seen_more c.loop-i.invariant (omega (arith, c.loop-i-test.true)) c.kind_of-kind.ensures c.wide.ensures.0 c.seen_length.ensures c.more_length.ensures.0 c.clear.ensures
 
 pub shape_of-bytes : goal.shape_of-bytes
 shape_of-bytes c = seen_long c.loop-i.invariant

@@ -22,12 +22,11 @@ slice_bounds-read-end c = sym (length-take-le c.compose-length.result c.compose-
 
 pub returns-then-buffer-length : goal.returns-then-buffer-length
 returns-then-buffer-length c =
-    let start = c in
-    let a = start.args in
+    let a = c.args in
     let k = c.compose-length in
     let reading = c.read-reading in
     c.refused-then-buffer-length.ensures _
-    ∙ reply_short (sections_from a.processors a.lines.now a.instructions.now a.pairs.now) a.buffer.now start.requires k.new.0 k.result (room c) k.ensures.0 (execution_of (take k.result k.new.0) reading.result.execution)
+    ∙ reply_short (sections_from a.processors a.lines.now a.instructions.now a.pairs.now) a.buffer.now c.requires k.new.0 k.result (room c) k.ensures.0 (execution_of (take k.result k.new.0) reading.result.execution)
     (reading.ensures ∙ ap (λ t. answer_meant (take k.result k.new.0) t reading.result.execution) c.in-Accepted.is)
     c.if-buffer-length.true
 
@@ -36,21 +35,19 @@ copy_bytes-requires c = (omega (arith, c.if-buffer-length.false), omega (arith, 
 
 pub returns-in-Refused : goal.returns-in-Refused
 returns-in-Refused c =
-    let start = c in
-    let a = start.args in
+    let a = c.args in
     let k = c.compose-length in
     let reading = c.read-reading in
     c.refused.ensures _
-    ∙ reply_refused (sections_from a.processors a.lines.now a.instructions.now a.pairs.now) a.buffer.now start.requires k.new.0 k.result (room c) k.ensures.0 _
+    ∙ reply_refused (sections_from a.processors a.lines.now a.instructions.now a.pairs.now) a.buffer.now c.requires k.new.0 k.result (room c) k.ensures.0 _
     (reading.ensures ∙ ap (λ t. answer_meant (take k.result k.new.0) t reading.result.execution) c.in-Refused.is)
 
 pub returns-else-buffer-length : goal.returns-else-buffer-length
 returns-else-buffer-length c =
-    let start = c in
-    let a = start.args in
+    let a = c.args in
     let k = c.compose-length in
     let reading = c.read-reading in
     ap (reply_of (record { answer = Done; length = k.result })) c.copy_bytes.ensures
-    ∙ reply_done (sections_from a.processors a.lines.now a.instructions.now a.pairs.now) a.buffer.now start.requires k.new.0 k.result (room c) k.ensures.0 (execution_of (take k.result k.new.0) reading.result.execution)
+    ∙ reply_done (sections_from a.processors a.lines.now a.instructions.now a.pairs.now) a.buffer.now c.requires k.new.0 k.result (room c) k.ensures.0 (execution_of (take k.result k.new.0) reading.result.execution)
     (reading.ensures ∙ ap (λ t. answer_meant (take k.result k.new.0) t reading.result.execution) c.in-Accepted.is)
     (omega (arith, c.if-buffer-length.false))

@@ -5,12 +5,6 @@ use Rattle.relation_places.proofs.PlaceLaws.{placed_there, placed_none, placing_
 use native.Mathlib.Omega.{arith}
 use Rattle.relation_places.proofs.place_all.Goals as goal
 
-}
-
-}
-
-)
-
 -- src/lib.rt:41:5
 pub loop-k-init : goal.loop-k-init
 loop-k-init c = (refl, placing_none c.requires refl placed_none)
@@ -21,6 +15,7 @@ returns-then-o-n c = record {
   long = c.loop-k.invariant.1.long;
   told = sym (placing_large c.loop-k.invariant.1 c.loop-k-test.true c.wide-o.result c.wide-o.ensures.0 c.if-o-n.true);
   places = λ h. absurd (false≢true h);
+}
 
 -- src/lib.rt:50:13
 pub returns-then-places-o : goal.returns-then-places-o
@@ -28,6 +23,7 @@ returns-then-places-o c = record {
   long = c.loop-k.invariant.1.long;
   told = sym (placing_twice c.loop-k.invariant.1 c.loop-k-test.true c.wide-o.result c.wide-o.ensures.0 (λ h. c.if-places-o.true (sym (placed_there c.loop-k.places c.wide-o.result (omega arith)) ∙ h)));
   places = λ h. absurd (false≢true h);
+}
 
 -- src/lib.rt:55:21
 pub overflow_cast-places : goal.overflow_cast-places
@@ -42,6 +38,7 @@ pub loop-k-preserved : goal.loop-k-preserved
 loop-k-preserved c = (
   refl,
   placing_more c.loop-k.invariant.1 c.loop-k-test.true c.wide-o.result c.wide-o.ensures.0 (omega arith) (placed_there c.loop-k.places c.wide-o.result (omega arith) ∙ c.if-places-o.false),
+)
 
 -- src/lib.rt:36:1
 pub returns : goal.returns

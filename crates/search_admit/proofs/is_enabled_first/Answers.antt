@@ -1,7 +1,6 @@
 -- The predecessors first, then what is read.
 use mathlib.Core.Path.{sym, ap, ◌∙◌}
 use mathlib.Core.Bool.{Bool, ◌&&◌}
-use borrow.Author.Tests.{not-true, not-false}
 use Rattle.base.proofs.Bools.{kept}
 use Rattle.search_admit.specs.Fits.{reads_recorded, enabled}
 use Rattle.search_admit.proofs.TestLaws.{ready_by}
@@ -12,10 +11,10 @@ unfolding enabled
 returns-then-not-subset c =
     let a = c.args in
     ap (λ (b : Bool). b && reads_recorded a.rows.now 0 0 a.words.now a.x.0)
-    (sym (not-true _ c.if-not-subset.true) ∙ ready_by a.rows.now 0 0 a.x.0 c.set_of.ensures.0 c.set_of.ensures.1 c.subset.ensures)
+    (sym (c.if-not-subset.true) ∙ ready_by a.rows.now 0 0 a.x.0 c.set_of.ensures.0 c.set_of.ensures.1 c.subset.ensures)
 
 pub returns : goal.returns
 unfolding enabled
 returns c =
     let a = c.args in
-    kept (ready_by a.rows.now 0 0 a.x.0 c.set_of.ensures.0 c.set_of.ensures.1 c.subset.ensures) (not-false _ c.if-not-subset.false) c.reads_words.ensures
+    kept (ready_by a.rows.now 0 0 a.x.0 c.set_of.ensures.0 c.set_of.ensures.1 c.subset.ensures) (c.if-not-subset.false) c.reads_words.ensures

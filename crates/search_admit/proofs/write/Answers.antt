@@ -7,8 +7,7 @@ use Rattle.search_admit.proofs.write.Goals as goal
 
 pub bounds-replaced-k-then-field_of-ne0 : goal.bounds-replaced-k-then-field_of-ne0
 bounds-replaced-k-then-field_of-ne0 c =
-    let s = c in
-    omega (arith, length-set s.args.replaced.now (2 * s.args.k) c.write_word.result, s.requires.1, s.requires.3)
+    omega (arith, length-set c.args.replaced.now (2 * c.args.k) c.write_word.result, c.requires.1, c.requires.3)
 
 pub returns-then-field_of-ne0 : goal.returns-then-field_of-ne0
 returns-then-field_of-ne0 c =

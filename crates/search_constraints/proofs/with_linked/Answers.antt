@@ -1,7 +1,6 @@
 -- No mark, only operations before the RVs, and a store.
 use mathlib.Core.Path.{sym, ap, ◌∙◌}
 use mathlib.Core.Bool.{Bool, ◌||◌}
-use borrow.Author.Tests.{not-true, not-false}
 use Rattle.record_decoded.specs.Kinds.{meant}
 use Rattle.search_sets.specs.Set.{holds}
 use Rattle.search_constraints.specs.Rows.{remote_linked, local_linked}
@@ -18,7 +17,7 @@ returns-then-not-is_store c = λ a l.
     let g = c.args in
     c.with_local-local.ensures a l
     ∙ ap (λ (b : Bool). holds g.set.lo g.set.hi a || b)
-    (sym (local_links g.marks g.processor g.first.0 g.processors g.role a (meant g.kind) (sym c.is_store.ensures ∙ not-true c.is_store.result c.if-not-is_store.true)))
+    (sym (local_links g.marks g.processor g.first.0 g.processors g.role a (meant g.kind) (sym c.is_store.ensures ∙ c.if-not-is_store.true)))
 
 pub returns : goal.returns
 returns c = λ a l.
@@ -26,4 +25,4 @@ returns c = λ a l.
     let k = meant g.kind in
     both_in (holds g.set.lo g.set.hi a) (local_linked g.marks k g.processor g.first.0 g.role a) (remote_linked g.marks k g.processor g.first.0 g.processors g.role a)
     (c.with_local-local.ensures a l) (c.with_remotes.ensures a l)
-    (store_links g.marks g.processor g.first.0 g.processors g.role a k (sym c.is_store.ensures ∙ not-false c.is_store.result c.if-not-is_store.false))
+    (store_links g.marks g.processor g.first.0 g.processors g.role a k (sym c.is_store.ensures ∙ c.if-not-is_store.false))

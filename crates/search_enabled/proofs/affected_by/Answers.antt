@@ -15,6 +15,7 @@ loop-y-init c = (
   omega arith,
   λ a k l. empty_at 256 a k (omega (arith, c.requires)) ∙ sym (ap (λ (b : Bool). b && affects c.args.rows.now a k) (le-ltb k 0 (omega arith))),
   length-replicate {A = ℕ} 256 0,
+)
 
 pub loop-y-smaller : goal.loop-y-smaller
 loop-y-smaller c =
@@ -22,13 +23,12 @@ loop-y-smaller c =
 
 pub loop-y-preserved : goal.loop-y-preserved
 loop-y-preserved c =
-    let s = c in
     let l = c.loop-y in
     let put = c.put_affected.ensures in
     let all = c.all_affecting-affecting in (
       omega (arith, c.loop-y-test.true),
-      λ b k m. put.0 b k (omega (arith, s.requires))
-          ∙ below_more (λ i. affects s.args.rows.now b i) l.y k (set_at l.affected b k) (holds all.result.lo all.result.hi b) (l.invariant.1 b k m) (λ e. all.ensures s.args.n b s.requires m (c.writers_for_reads-writers.ensures l.y c.loop-y-test.true)),
+      λ b k m. put.0 b k (omega (arith, c.requires))
+          ∙ below_more (λ i. affects c.args.rows.now b i) l.y k (set_at l.affected b k) (holds all.result.lo all.result.hi b) (l.invariant.1 b k m) (λ e. all.ensures c.args.n b c.requires m (c.writers_for_reads-writers.ensures l.y c.loop-y-test.true)),
       put.1,
     )
 

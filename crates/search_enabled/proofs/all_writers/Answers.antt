@@ -15,6 +15,7 @@ loop-a-init c = (
   omega arith,
   λ p k l. empty_at 128 p k (omega arith) ∙ sym (ap (λ (b : Bool). b && writes_at c.args.rows.now k p) (le-ltb k 0 (omega arith))),
   length-replicate {A = ℕ} 128 0,
+)
 
 pub loop-a-smaller : goal.loop-a-smaller
 loop-a-smaller c = omega (arith, c.loop-a-test.true)

@@ -5,16 +5,14 @@ use Rattle.search_enabled.proofs.put_written.Goals as goal
 
 pub returns-then-field_of-ne0 : goal.returns-then-field_of-ne0
 returns-then-field_of-ne0 c =
-    let s = c in
     let once = c.put_writer.ensures in (
-      λ p k. written_two s.args.rows.now s.args.a.0 p k (set_at s.args.writers.now p k) c.word_of.ensures.0 c.field_of.ensures (once.0 p k) c.if-field_of-ne0.true c.word_of-then-field_of-ne0.ensures.0 (c.put_writer-then-field_of-ne0.ensures.0 p k),
+      λ p k. written_two c.args.rows.now c.args.a.0 p k (set_at c.args.writers.now p k) c.word_of.ensures.0 c.field_of.ensures (once.0 p k) c.if-field_of-ne0.true c.word_of-then-field_of-ne0.ensures.0 (c.put_writer-then-field_of-ne0.ensures.0 p k),
       c.put_writer-then-field_of-ne0.ensures.1,
     )
 
 pub returns-else-field_of-ne0 : goal.returns-else-field_of-ne0
 returns-else-field_of-ne0 c =
-    let s = c in
     let once = c.put_writer.ensures in (
-      λ p k. written_one s.args.rows.now s.args.a.0 p k (set_at s.args.writers.now p k) c.word_of.ensures.0 c.field_of.ensures (once.0 p k) c.if-field_of-ne0.false,
+      λ p k. written_one c.args.rows.now c.args.a.0 p k (set_at c.args.writers.now p k) c.word_of.ensures.0 c.field_of.ensures (once.0 p k) c.if-field_of-ne0.false,
       once.1,
     )

@@ -12,8 +12,7 @@ overflow_mul-left c = omega (arith, square c.args.n c.requires.0.0)
 
 pub loop-left-init : goal.loop-left-init
 loop-left-init c =
-    let s = c in
-    search_starts (record { few = s.requires.0.0; room = s.requires.0.1; start = refl; levelled = s.requires.0.2.levelled; whole = s.requires.1.0 }) s.requires.0.2 s.requires.1.1 s.requires.1.2 c.at-candidates.ensures
+    search_starts (record { few = c.requires.0.0; room = c.requires.0.1; start = refl; levelled = c.requires.0.2.levelled; whole = c.requires.1.0 }) c.requires.0.2 c.requires.1.1 c.requires.1.2 c.at-candidates.ensures
 
 pub first-x-requires : goal.first-x-requires
 first-x-requires c =

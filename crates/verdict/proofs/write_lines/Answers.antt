@@ -8,7 +8,7 @@ use Rattle.verdict.proofs.write_lines.Goals as goal
 
 pub slice_bounds-write_order-end : goal.slice_bounds-write_order-end
 slice_bounds-write_order-end c =
-    let s = c in sym (length-take-le s.args.total.length s.args.total.buffer s.requires)
+    sym (length-take-le c.args.total.length c.args.total.buffer c.requires)
 
 pub returns-in-Allowed : goal.returns-in-Allowed
 unfolding lines

@@ -13,28 +13,23 @@ bounded role q e l = omega (arith, ap role_processor e)
 
 pub overflow_add-place : goal.overflow_add-place
 overflow_add-place c =
-    let s = c in
-    omega (arith, c.before_remotes.ensures.2, s.requires.0, bounded s.args.role c.in-RV.q c.in-RV.is s.requires.1)
+    omega (arith, c.before_remotes.ensures.2, c.requires.0, bounded c.args.role c.in-RV.q c.in-RV.is c.requires.1)
 
 pub overflow_add-result-in-RV : goal.overflow_add-result-in-RV
 overflow_add-result-in-RV c =
-    let s = c in
-    omega (arith, c.before_remotes.ensures.2, s.requires.0, bounded s.args.role c.in-RV.q c.in-RV.is s.requires.1)
+    omega (arith, c.before_remotes.ensures.2, c.requires.0, bounded c.args.role c.in-RV.q c.in-RV.is c.requires.1)
 
 pub returns-in-R : goal.returns-in-R
 returns-in-R c =
-    let s = c in
-    rw c.in-R.is (omega (arith, R_place (meant s.args.k)))
+    rw c.in-R.is (omega (arith, R_place (meant c.args.k)))
 
 pub returns-in-LV : goal.returns-in-LV
 returns-in-LV c =
-    let s = c in
-    rw c.in-LV.is (omega (arith, c.before_remotes-place.ensures.0, LV_place (meant s.args.k)))
+    rw c.in-LV.is (omega (arith, c.before_remotes-place.ensures.0, LV_place (meant c.args.k)))
 
 pub returns-in-F : goal.returns-in-F
 returns-in-F c =
-    let s = c in
-    rw c.in-F.is (omega (arith, F_place (meant s.args.k)))
+    rw c.in-F.is (omega (arith, F_place (meant c.args.k)))
 
 pub returns-in-RV : goal.returns-in-RV
 returns-in-RV c = rw c.in-RV.is (omega (arith, c.before_remotes.ensures.0))

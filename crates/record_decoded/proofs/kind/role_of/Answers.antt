@@ -24,15 +24,12 @@ remote p k place before e l h =
 
 pub returns-then-place-eq0 : goal.returns-then-place-eq0
 returns-then-place-eq0 c processors l =
-    let s = c in
-    first processors (meant s.args.k) s.args.place c.first_role.result c.if-place-eq0.true c.first_role.ensures
+    first processors (meant c.args.k) c.args.place c.first_role.result c.if-place-eq0.true c.first_role.ensures
 
 pub returns-then-place-before : goal.returns-then-place-before
 returns-then-place-before c processors l =
-    let s = c in
-    second processors (meant s.args.k) s.args.place c.if-place-eq0.false (omega (arith, c.before_remotes-before.ensures.0))
+    second processors (meant c.args.k) c.args.place c.if-place-eq0.false (omega (arith, c.before_remotes-before.ensures.0))
 
 pub returns : goal.returns
 returns c processors l =
-    let s = c in
-    remote processors (meant s.args.k) s.args.place c.before_remotes-before.result c.before_remotes-before.ensures.0 (omega arith) l
+    remote processors (meant c.args.k) c.args.place c.before_remotes-before.result c.before_remotes-before.ensures.0 (omega arith) l

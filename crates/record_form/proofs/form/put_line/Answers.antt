@@ -25,13 +25,13 @@ pub is_touched-requires : goal.is_touched-requires
 is_touched-requires c = let a = c.args in (few a.bytes.now a.x c.requires.0).instructions_few
 
 pub overflow_mul-line : goal.overflow_mul-line
-overflow_mul-line c = let s = c in omega (arith, s.requires.1, (few s.args.bytes.now s.args.x s.requires.0).lines_few)
+overflow_mul-line c = omega (arith, c.requires.1, (few c.args.bytes.now c.args.x c.requires.0).lines_few)
 
 pub overflow_add-line : goal.overflow_add-line
-overflow_add-line c = let s = c in omega (arith, s.requires.1, (few s.args.bytes.now s.args.x s.requires.0).lines_few)
+overflow_add-line c = omega (arith, c.requires.1, (few c.args.bytes.now c.args.x c.requires.0).lines_few)
 
 pub copy_bytes-requires : goal.copy_bytes-requires
-copy_bytes-requires c = let s = c in (s.requires.2, line_within s.args.bytes.now s.args.x s.requires.0 s.args.line s.requires.1)
+copy_bytes-requires c = (c.requires.2, line_within c.args.bytes.now c.args.x c.requires.0 c.args.line c.requires.1)
 
 pub slice_bounds-copy_bytes-end : goal.slice_bounds-copy_bytes-end
 slice_bounds-copy_bytes-end c = refl

@@ -29,7 +29,7 @@ pub loop-k-init : goal.loop-k-init
 loop-k-init c = pairs_none (omega (arith, c.requires.3))
 
 pub bounds-order-k : goal.bounds-order-k
-bounds-order-k c = let s = c in omega (arith, (few s.args.bytes.now s.args.x s.requires.0).processors_few)
+bounds-order-k c = omega (arith, (few c.args.bytes.now c.args.x c.requires.0).processors_few)
 
 pub offset_bounds-firsts-p : goal.offset_bounds-firsts-p
 offset_bounds-firsts-p c = omega (arith, low c)
@@ -39,15 +39,14 @@ bounds-firsts-p c = omega (arith, low c)
 
 pub put_own-next-requires : goal.put_own-next-requires
 put_own-next-requires c =
-    let s = c in
-    let a = s.args in
+    let a = c.args in
     let inv = c.loop-k.invariant in
-    let small = few a.bytes.now a.x s.requires.0 in (
+    let small = few a.bytes.now a.x c.requires.0 in (
       small.instructions_few,
       small.pairs_few,
-      s.requires.1.firsts_are c.wide-p.result (omega (arith, low c)),
-      own_room a.bytes.now a.x a.starts a.t6 a.out.now a.at s.requires inv c.loop-k-test.true c.wide-p.ensures.0,
-      raise_few a.bytes.now a.x a.starts a.t6 a.out.now a.at s.requires inv,
+      c.requires.1.firsts_are c.wide-p.result (omega (arith, low c)),
+      own_room a.bytes.now a.x a.starts a.t6 a.out.now a.at c.requires inv c.loop-k-test.true c.wide-p.ensures.0,
+      raise_few a.bytes.now a.x a.starts a.t6 a.out.now a.at c.requires inv,
     )
 
 pub overflow_add-raise : goal.overflow_add-raise
@@ -64,21 +63,18 @@ overflow_sub-raise c = omega (arith, numbers c)
 
 pub overflow_add-raise-in-loop-k : goal.overflow_add-raise-in-loop-k
 overflow_add-raise-in-loop-k c =
-    let s = c in
-    let a = s.args in
-    omega (arith, numbers c, raise_less a.bytes.now a.x a.starts a.t6 a.out.now a.at s.requires c.loop-k.invariant c.loop-k-test.true c.wide-p.ensures.0)
+    let a = c.args in
+    omega (arith, numbers c, raise_less a.bytes.now a.x a.starts a.t6 a.out.now a.at c.requires c.loop-k.invariant c.loop-k-test.true c.wide-p.ensures.0)
 
 pub loop-k-preserved : goal.loop-k-preserved
 loop-k-preserved c =
-    let s = c in
-    let a = s.args in
-    pairs_more a.bytes.now a.x a.starts a.t6 a.out.now a.at s.requires c.loop-k.invariant c.loop-k-test.true c.wide-p.ensures.0 c.put_own-next.ensures (omega (arith, numbers c))
+    let a = c.args in
+    pairs_more a.bytes.now a.x a.starts a.t6 a.out.now a.at c.requires c.loop-k.invariant c.loop-k-test.true c.wide-p.ensures.0 c.put_own-next.ensures (omega (arith, numbers c))
 
 pub shape_of-out : goal.shape_of-out
 shape_of-out c = c.loop-k.invariant.put.long
 
 pub returns : goal.returns
 returns c =
-    let s = c in
-    let a = s.args in
-    pairs_put a.bytes.now a.x a.starts a.t6 a.out.now a.at s.requires c.loop-k.invariant c.loop-k-test.false
+    let a = c.args in
+    pairs_put a.bytes.now a.x a.starts a.t6 a.out.now a.at c.requires c.loop-k.invariant c.loop-k-test.false

@@ -19,7 +19,7 @@ pub loop-k-init : goal.loop-k-init
 loop-k-init c = programs_none (omega (arith, c.requires.3))
 
 pub bounds-order-k : goal.bounds-order-k
-bounds-order-k c = let s = c in omega (arith, (few s.args.bytes.now s.args.x s.requires.0).processors_few)
+bounds-order-k c = omega (arith, (few c.args.bytes.now c.args.x c.requires.0).processors_few)
 
 pub offset_bounds-places-p : goal.offset_bounds-places-p
 offset_bounds-places-p c = omega (arith, low c)
@@ -37,34 +37,32 @@ pub bounds-places-p-in-loop-k : goal.bounds-places-p-in-loop-k
 bounds-places-p-in-loop-k c = omega (arith, low c)
 
 pub overflow_sub-n : goal.overflow_sub-n
-overflow_sub-n c = let s = c in let a = s.args in place_rises a.bytes.now a.x a.starts a.t6 a.out.now a.at s.requires c.loop-k.invariant c.loop-k-test.true c.wide-p.ensures.0
+overflow_sub-n c = let a = c.args in place_rises a.bytes.now a.x a.starts a.t6 a.out.now a.at c.requires c.loop-k.invariant c.loop-k-test.true c.wide-p.ensures.0
 
 pub copy_bytes-requires : goal.copy_bytes-requires
 copy_bytes-requires c =
-    let s = c in
-    let a = s.args in
+    let a = c.args in
     let inv = c.loop-k.invariant in
     let more = c.loop-k-test.true in
     let this = c.wide-p.ensures.0 in
-    (program_room a.bytes.now a.x a.starts a.t6 a.out.now a.at s.requires inv more this, piece_there a.bytes.now a.x a.starts a.t6 a.out.now a.at s.requires inv more this)
+    (program_room a.bytes.now a.x a.starts a.t6 a.out.now a.at c.requires inv more this, piece_there a.bytes.now a.x a.starts a.t6 a.out.now a.at c.requires inv more this)
 
 pub overflow_add-next : goal.overflow_add-next
 overflow_add-next c =
-    let s = c in
-    let a = s.args in
+    let a = c.args in
     let inv = c.loop-k.invariant in
     omega (
       arith,
-      program_room a.bytes.now a.x a.starts a.t6 a.out.now a.at s.requires inv c.loop-k-test.true c.wide-p.ensures.0,
+      program_room a.bytes.now a.x a.starts a.t6 a.out.now a.at c.requires inv c.loop-k-test.true c.wide-p.ensures.0,
       inv.put.long,
-      s.well-formed.0,
+      c.before.before.before.before.before.before.before.before.before.before.before.well-formed.0,
     )
 
 pub loop-k-preserved : goal.loop-k-preserved
-loop-k-preserved c = let s = c in let a = s.args in programs_more a.bytes.now a.x a.starts a.t6 a.out.now a.at s.requires c.loop-k.invariant c.loop-k-test.true c.wide-p.ensures.0 c.copy_bytes.ensures
+loop-k-preserved c = let a = c.args in programs_more a.bytes.now a.x a.starts a.t6 a.out.now a.at c.requires c.loop-k.invariant c.loop-k-test.true c.wide-p.ensures.0 c.copy_bytes.ensures
 
 pub shape_of-out : goal.shape_of-out
 shape_of-out c = c.loop-k.invariant.put.long
 
 pub returns : goal.returns
-returns c = let s = c in let a = s.args in programs_put a.bytes.now a.x a.starts a.t6 a.out.now a.at s.requires c.loop-k.invariant c.loop-k-test.false
+returns c = let a = c.args in programs_put a.bytes.now a.x a.starts a.t6 a.out.now a.at c.requires c.loop-k.invariant c.loop-k-test.false

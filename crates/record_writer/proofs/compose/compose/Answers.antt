@@ -5,48 +5,41 @@ use Rattle.record_writer.proofs.compose.compose.Goals as goal
 
 pub returns-then-processors-gt-MOST_PROCESSORS : goal.returns-then-processors-gt-MOST_PROCESSORS
 returns-then-processors-gt-MOST_PROCESSORS c =
-    let start = c in
-    let a = start.args in
-    record_fails a.processors a.lines.now a.instructions.now a.pairs.now a.out.now start.requires c.if-processors-gt-MOST_PROCESSORS.true
+    let a = c.args in
+    record_fails a.processors a.lines.now a.instructions.now a.pairs.now a.out.now c.requires c.if-processors-gt-MOST_PROCESSORS.true
 
 pub returns-then-n : goal.returns-then-n
 returns-then-n c =
-    let start = c in
-    let a = start.args in
-    lines_fail a.processors a.lines.now a.instructions.now a.pairs.now a.out.now start.requires c.if-processors-gt-MOST_PROCESSORS.false c.if-n.true
+    let a = c.args in
+    lines_fail a.processors a.lines.now a.instructions.now a.pairs.now a.out.now c.requires c.if-processors-gt-MOST_PROCESSORS.false c.if-n.true
 
 pub copy_bytes-requires : goal.copy_bytes-requires
 copy_bytes-requires c =
-    let start = c in
-    let a = start.args in
-    (lines_room a.processors a.lines.now a.instructions.now a.pairs.now a.out.now start.requires c.if-processors-gt-MOST_PROCESSORS.false c.if-n.false, omega arith)
+    let a = c.args in
+    (lines_room a.processors a.lines.now a.instructions.now a.pairs.now a.out.now c.requires c.if-processors-gt-MOST_PROCESSORS.false c.if-n.false, omega arith)
 
 pub overflow_add-lines : goal.overflow_add-lines
 overflow_add-lines c =
-    let start = c in
-    let a = start.args in
-    omega (arith, lines_short a.processors a.lines.now a.instructions.now a.pairs.now a.out.now start.requires c.if-processors-gt-MOST_PROCESSORS.false c.if-n.false)
+    let a = c.args in
+    omega (arith, lines_short a.processors a.lines.now a.instructions.now a.pairs.now a.out.now c.requires c.if-processors-gt-MOST_PROCESSORS.false c.if-n.false)
 
 pub put_programs-requires : goal.put_programs-requires
 put_programs-requires c =
-    let copy = c in
-    let few = copy.before.before in
+    let few = c in
     let start = few.before.before.before.before.before.before in
     let a = start.args in
-    programs_asked a.processors a.lines.now a.instructions.now a.pairs.now a.out.now start.requires few.before.if1.false few.if2.false copy.copy-bytes.ensures
+    programs_asked a.processors a.lines.now a.instructions.now a.pairs.now a.out.now start.requires few.before.if1.false few.if2.false c.copy_bytes.ensures
 
 pub shape_of-out : goal.shape_of-out
 shape_of-out c =
-    let copy = c in
-    let few = copy.before.before in
+    let few = c in
     let start = few.before.before.before.before.before.before in
     let a = start.args in
-    record_long a.processors a.lines.now a.instructions.now a.pairs.now a.out.now start.requires few.before.if1.false few.if2.false copy.copy-bytes.ensures c.put_programs.ensures
+    record_long a.processors a.lines.now a.instructions.now a.pairs.now a.out.now start.requires few.before.if1.false few.if2.false c.copy_bytes.ensures c.put_programs.ensures
 
 pub returns : goal.returns
 returns c =
-    let copy = c in
-    let few = copy.before.before in
+    let few = c in
     let start = few.before.before.before.before.before.before in
     let a = start.args in
-    record_ends a.processors a.lines.now a.instructions.now a.pairs.now a.out.now start.requires few.before.if1.false few.if2.false copy.copy-bytes.ensures c.put_programs.ensures
+    record_ends a.processors a.lines.now a.instructions.now a.pairs.now a.out.now start.requires few.before.if1.false few.if2.false c.copy_bytes.ensures c.put_programs.ensures

@@ -8,9 +8,8 @@ returns-then-n c = pairs_many c.args.pairs.now c.if-n.true c.requires.0
 
 pub copy_bytes-requires : goal.copy_bytes-requires
 copy_bytes-requires c =
-    let start = c in
-    let a = start.args in
-    (pairs_room a.out.now a.at a.pairs.now c.if-n.false start.requires.1 start.requires.0, omega arith)
+    let a = c.args in
+    (pairs_room a.out.now a.at a.pairs.now c.if-n.false c.requires.1 c.requires.0, omega arith)
 
 pub overflow_add-result-2 : goal.overflow_add-result-2
 overflow_add-result-2 c = omega arith
@@ -20,11 +19,9 @@ overflow_add-result-3 c = omega arith
 
 pub shape_of-out : goal.shape_of-out
 shape_of-out c =
-    let start = c in
-    let a = start.args in
-    (pairs_few {x = a.out.now} a.pairs.now c.if-n.false start.requires.1 start.requires.0 c.copy_bytes.ensures).long
+    let a = c.args in
+    (pairs_few {x = a.out.now} a.pairs.now c.if-n.false c.requires.1 c.requires.0 c.copy_bytes.ensures).long
 
 pub returns : goal.returns
 returns c =
-    let start = c in
-    pairs_few start.args.pairs.now c.if-n.false start.requires.1 start.requires.0 c.copy_bytes.ensures
+    pairs_few c.args.pairs.now c.if-n.false c.requires.1 c.requires.0 c.copy_bytes.ensures

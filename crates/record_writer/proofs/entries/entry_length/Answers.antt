@@ -26,12 +26,11 @@ overflow_add-result c = omega (arith, c.more_length.ensures.1)
 
 pub returns : goal.returns
 returns c =
-    let b = c in
-    let a = b.before.before.before.before.args in
+    let a = c.args in
     let more = c.more_length.ensures in (
-      length_access a.part.now a.at c.more_length.result b.before.if1.false
-          (sym (ap is_fence b.kind-of.ensures) ∙ sym c.is_fence.ensures ∙ c.if-is_fence.false)
-          (more.0 ∙ ap (λ k. more_length k (get_or a.part.now (a.at + 3) 0)) b.kind-of.ensures),
+      length_access a.part.now a.at c.more_length.result c.if-k-gt-LAST_KIND.false
+          (sym (ap is_fence c.kind_of-kind.ensures) ∙ sym c.is_fence.ensures ∙ c.if-is_fence.false)
+          (more.0 ∙ ap (λ k. more_length k (get_or a.part.now (a.at + 3) 0)) c.kind_of-kind.ensures),
       omega (arith, more.1),
       omega (arith, more.1),
     )

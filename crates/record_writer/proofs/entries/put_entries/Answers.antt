@@ -18,36 +18,32 @@ overflow_add-from c = omega arith
 
 pub copy_bytes-requires : goal.copy_bytes-requires
 copy_bytes-requires c =
-    let entry = c in
-    let inv = entry.before.before.loop.invariant in
-    let more = entry.before.loop-test.true in
-    let long = entry.entry_length.ensures.0 in
+    let inv = c.loop-from.invariant in
+    let more = c.loop-from-test.true in
+    let long = c.entry_length-n.ensures.0 in
     let some = c.number_if-bytes.ensures in
     (putting_room inv more long some, putting_there inv more long some)
 
 pub overflow_add-next : goal.overflow_add-next
 overflow_add-next c =
-    let entry = c in
-    let inv = entry.before.before.loop.invariant in
-    let more = entry.before.loop-test.true in
-    let long = entry.entry_length.ensures.0 in
+    let inv = c.loop-from.invariant in
+    let more = c.loop-from-test.true in
+    let long = c.entry_length-n.ensures.0 in
     let some = c.number_if-bytes.ensures in
     omega (arith, putting_room inv more long some)
 
 pub overflow_add-from-in-loop-from : goal.overflow_add-from-in-loop-from
 overflow_add-from-in-loop-from c =
-    let entry = c in
-    omega (arith, entry.entry_length.ensures.0, walking_there entry.before.before.loop.invariant.walking entry.before.loop-test.true)
+    omega (arith, c.entry_length-n.ensures.0, walking_there c.loop-from.invariant.walking c.loop-from-test.true)
 
 pub loop-from-smaller : goal.loop-from-smaller
 loop-from-smaller c = omega (arith, c.entry_length-n.ensures.1)
 
 pub loop-from-preserved : goal.loop-from-preserved
 loop-from-preserved c =
-    let entry = c in
-    let inv = entry.before.before.loop.invariant in
-    let more = entry.before.loop-test.true in
-    let long = entry.entry_length.ensures.0 in
+    let inv = c.loop-from.invariant in
+    let more = c.loop-from-test.true in
+    let long = c.entry_length-n.ensures.0 in
     let some = c.number_if-bytes.ensures in
     putting_turns inv more long some c.copy_bytes.ensures
 

@@ -18,6 +18,7 @@ loop-j-preserved c = (
   omega arith,
   entered_more c.loop-j.invariant.1 c.mark_of.result (omega arith)
       (marks_as (c.mark_of.ensures ∙ ap mark_of (c.either.ensures ∙ ap₂ ◌||◌ c.is_marked-own.ensures c.is_marked-other.ensures))),
+)
 
 pub returns : goal.returns
 returns c = λ j h. c.loop-j.invariant.1.holds j (omega (arith, h, c.loop-j-test.false))

@@ -1,7 +1,6 @@
 -- Those of memory and of a pair; else the marks packed, from the highest bit down.
 use mathlib.Core.Path.{refl, sym, ap, ◌∙◌}
 use mathlib.Core.Bool.{Bool, ◌&&◌}
-use borrow.Author.Tests.{not-true}
 use Rattle.record_decoded.specs.Kinds.{meant, attribute_meant}
 use Rattle.relation_marks.proofs.BetweenLaws.{put_together, unrelated_together}
 use Rattle.relation_marks.proofs.MarkLaws.{mark_more}
@@ -11,7 +10,7 @@ pub returns-then-not-either : goal.returns-then-not-either
 returns-then-not-either c =
     let g = c.args in
     unrelated_together g.same g.own g.earlier g.overlaps g.given (meant g.first) (meant g.second) (attribute_meant g.of-first) (attribute_meant g.of-second)
-    (sym c.either.ensures ∙ not-true c.either.result c.if-not-either.true) c.unrelated_marks.ensures c.memory_marks-memory.ensures.0 c.semaphore_marks-semaphores.ensures.0
+    (sym c.either.ensures ∙ c.if-not-either.true) c.unrelated_marks.ensures c.memory_marks-memory.ensures.0 c.semaphore_marks-semaphores.ensures.0
 
 pub returns : goal.returns
 returns c =

@@ -19,9 +19,8 @@ loop-k-init c = seeks
 
 pub returns-then-both : goal.returns-then-both
 returns-then-both c =
-    let b = c in
-    let a = b.before.before.before.before.before.args in
-    meets b.before.loop.invariant b.loop-test.true
+    let a = c.args in
+    meets c.loop-k.invariant c.loop-k-test.true
     (c.both.ensures ∙ ap₂ (λ j k. eqb j a.earlier.0 && eqb k a.later.0) c.wide-first.ensures.0 c.wide-second.ensures.0) c.if-both.true
     ∙ pair_by_index a.pairs a.earlier.0 a.later.0
 
@@ -30,9 +29,8 @@ loop-k-smaller c = omega arith
 
 pub loop-k-preserved : goal.loop-k-preserved
 loop-k-preserved c =
-    let b = c in
-    let a = b.before.before.before.before.before.args in
-    passes_by b.before.loop.invariant b.loop-test.true
+    let a = c.args in
+    passes_by c.loop-k.invariant c.loop-k-test.true
     (c.both.ensures ∙ ap₂ (λ j k. eqb j a.earlier.0 && eqb k a.later.0) c.wide-first.ensures.0 c.wide-second.ensures.0) c.if-both.false
 
 pub returns : goal.returns

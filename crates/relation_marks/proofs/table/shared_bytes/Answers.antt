@@ -7,10 +7,9 @@ use Rattle.relation_marks.proofs.table.shared_bytes.Goals as goal
 
 pub returns : goal.returns
 returns c =
-    let b = c in
-    let a = b.before.before.before.before.args in
-    let from = c.larger-from.ensures ∙ ap₂ max b.before.before.before.wide.ensures.0 b.before.wide3.ensures.0 in
+    let a = c.args in
+    let from = c.larger-from.ensures ∙ ap₂ max c.wide-a.ensures.0 c.wide-o.ensures.0 in
     let end = c.smaller-end.ensures
-    ∙ ap₂ min (ap₂ ◌+◌ b.before.before.before.wide.ensures.0 b.before.before.wide2.ensures.0)
-    (ap₂ ◌+◌ b.before.wide3.ensures.0 b.wide4.ensures.0) in
+    ∙ ap₂ min (ap₂ ◌+◌ c.wide-a.ensures.0 c.wide-s.ensures.0)
+    (ap₂ ◌+◌ c.wide-o.ensures.0 c.wide-e.ensures.0) in
     shared_are a.address a.size a.other a.extent ∙ sym (ap₂ (λ (m n : ℕ). count m (n - m)) from end)

@@ -2,7 +2,6 @@
 use native.Mathlib.Omega.{arith}
 use mathlib.Core.Path.{sym, ap, ◌∙◌}
 use lib.Seq.{length-take-le}
-use borrow.Author.Tests.{not-true, not-false}
 use Rattle.model.specs.Calls.{search_reply}
 use Rattle.record_decoded.specs.Decoded.{execution_of}
 use Rattle.record_decoded.proofs.Counts.{count_is}
@@ -43,7 +42,7 @@ returns-then-not-placing c =
     let r = c.refused-then-not-placing.ensures in
     refused_reply a.buffer.now a.saved a.allowance c.refused-then-not-placing.result 20 r.0 r.1 r.2
     ∙ ap (search_reply a.saved a.buffer.now) (searched_20 a.buffer.now a.saved a.allowance (execution_of a.bytes.now a.x) _ (count_is a.bytes.now a.x _ c.operations_of-t.ensures.counts) c.if-buffer-n.false c.if-n-saved.false
-    (sym c.place_all-placing.ensures.told ∙ not-true _ c.if-not-placing.true))
+    (sym c.place_all-placing.ensures.told ∙ c.if-not-placing.true))
 
 pub all_marks-marks-requires : goal.all_marks-marks-requires
 all_marks-marks-requires c =
@@ -57,7 +56,7 @@ search_on-requires c =
     let a = c.args in
     let t = c.operations_of-t.ensures in (
       (c.requires, λ others. compiled others a.x t (c.all_marks-marks.ensures others)),
-      (c.if-n-saved.false, c.if-buffer-n.false, sym c.place_all-placing.ensures.told ∙ not-false _ c.if-not-placing.false),
+      (c.if-n-saved.false, c.if-buffer-n.false, sym c.place_all-placing.ensures.told ∙ c.if-not-placing.false),
     )
 
 pub returns : goal.returns
@@ -65,4 +64,4 @@ returns c =
     let a = c.args in
     c.search_on.ensures
     ∙ ap (search_reply a.saved a.buffer.now) (searched_on a.buffer.now a.saved a.allowance (execution_of a.bytes.now a.x) _ (count_is a.bytes.now a.x _ c.operations_of-t.ensures.counts) c.if-buffer-n.false c.if-n-saved.false
-    (sym c.place_all-placing.ensures.told ∙ not-false _ c.if-not-placing.false))
+    (sym c.place_all-placing.ensures.told ∙ c.if-not-placing.false))

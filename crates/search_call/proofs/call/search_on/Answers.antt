@@ -5,7 +5,6 @@ use mathlib.Core.Path.{◌≡◌, refl, sym, ap, ◌∙◌}
 use mathlib.Core.Bool.{true}
 use mathlib.Core.List.{[]}
 use lib.ListN.{length, take}
-use borrow.Author.Tests.{not-true, not-false}
 use Rattle.base.specs.Lists.{distinct}
 use Rattle.model.specs.Rules.{rules, keeps}
 use Rattle.model.specs.Calls.{search_reply}
@@ -15,11 +14,11 @@ use Rattle.search_call.proofs.CallLaws.{consistent_closed, empty_keeps, outcome_
 use Rattle.search_call.proofs.call.search_on.Goals as goal
 
 pub put_rows-requires : goal.put_rows-requires
-put_rows-requires c = let pre = c.before.before.before.pre in (pre.0.1, pre.0.0, refl)
+put_rows-requires c = let pre = c.requires in (pre.0.1, pre.0.0, refl)
 
 pub saved_position-given-requires : goal.saved_position-given-requires
 saved_position-given-requires c =
-    let pre = c.before.before.before.before.before.before.pre in
+    let pre = c.requires in
     let compiled = pre.0.1 c.args.bytes.now in
     let a = c.args in (
       (let z : a.saved ≤ 128 = omega (arith, pre.1.0, compiled.tabled.counts, pre.0.0.operations_few) in z),
@@ -27,12 +26,12 @@ saved_position-given-requires c =
     )
 
 pub affected_by-affected-requires : goal.affected_by-affected-requires
-affected_by-affected-requires c = let pre = c.before.before.before.before.before.before.before.before.pre in
+affected_by-affected-requires c = let pre = c.requires in
     let compiled = pre.0.1 c.args.bytes.now in omega (arith, compiled.tabled.counts, pre.0.0.operations_few)
 
 pub search_from-outcome-requires : goal.search_from-outcome-requires
 search_from-outcome-requires c =
-    let pre = c.before.before.before.before.before.before.before.before.before.before.before.pre in
+    let pre = c.requires in
     let compiled = pre.0.1 c.args.bytes.now in
     let p = c.saved_position-given.ensures in (
       omega (arith, compiled.tabled.counts, pre.0.0.operations_few),
@@ -45,7 +44,7 @@ search_from-outcome-requires c =
 pub returns-then-not-consistent : goal.returns-then-not-consistent
 returns-then-not-consistent c =
     let a = c.args in
-    let pre = c.before.before.before.before.before.before.before.before.before.before.before.before.before.before.before.pre in
+    let pre = c.requires in
     let compiled = pre.0.1 c.args.bytes.now in
     let e = execution_of a.bytes.now a.x in
     let r = c.refused.ensures in
@@ -53,11 +52,11 @@ returns-then-not-consistent c =
     ∙ ap (search_reply a.saved a.buffer.now) (searched_21 e (take a.saved a.buffer.now) a.allowance
     (keeps_is e (take a.saved a.buffer.now) ∙ ap (keeps (rules e)) (sym c.saved_position-given.ensures.0)
     ∙ sym (c.search_from-outcome.ensures.told (keeps (rules e)) (tested_keeps c.put_rows.ensures pre.0.0 a.t.count compiled.tabled.counts) (consistent_closed e) (empty_keeps e))
-    ∙ not-true _ c.if-not-consistent.taken))
+    ∙ c.if-not-consistent.true))
 
 pub write_position-requires : goal.write_position-requires
 write_position-requires c =
-    let pre = c.before.before.before.before.before.before.before.before.before.before.before.before.before.before.before.pre in
+    let pre = c.requires in
     let compiled = pre.0.1 c.args.bytes.now in
     let a = c.args in (
       omega (arith, c.search_from-outcome.ensures.bounded.short, compiled.tabled.counts, pre.0.0.operations_few),
@@ -67,14 +66,14 @@ write_position-requires c =
 pub returns : goal.returns
 returns c =
     let a = c.args in
-    let pre = c.before.before.before.before.before.before.before.before.before.before.before.before.before.before.before.before.before.before.before.pre in
+    let pre = c.requires in
     let compiled = pre.0.1 c.args.bytes.now in
     let e = execution_of a.bytes.now a.x in
     let p = c.saved_position-given.ensures in
     let d = c.search_from-outcome.ensures in
     let count = compiled.tabled.counts in
     let table = tested_keeps c.put_rows.ensures pre.0.0 a.t.count count in
-    let passes : keeps (rules e) (position_of c.saved_position-given.result) ≡ true = sym (d.told (keeps (rules e)) table (consistent_closed e) (empty_keeps e)) ∙ not-false _ c.if-not-consistent.left in
+    let passes : keeps (rules e) (position_of c.saved_position-given.result) ≡ true = sym (d.told (keeps (rules e)) table (consistent_closed e) (empty_keeps e)) ∙ c.if-not-consistent.false in
     outcome_reply e a.buffer.now _ a.saved a.allowance a.t.count count (position_of c.saved_position-given.result) p.0 c.search_from-outcome.result
     (d.comes (keeps (rules e)) table (consistent_closed e) passes)
     (omega (arith, d.bounded.short, d.bounded.whole, count, pre.0.0.operations_few)) c.write_position.ensures

@@ -8,7 +8,6 @@ use Rattle.search_resume.proofs.replay.first_level.Goals as goal
 
 pub returns : goal.returns
 returns c =
-    let s = c in
     let e = c.first_enabled-enabled in
-    levels_none s.args.rows.now s.args.levels.now s.requires.0 s.requires.1 s.requires.2 s.requires.3 e.result.lo e.result.hi e.ensures
+    levels_none c.args.rows.now c.args.levels.now c.requires.0 c.requires.1 c.requires.2 c.requires.3 e.result.lo e.result.hi e.ensures
     (c.put-2.ensures ∙ ap (λ (l : List ℕ). put_at l 2 e.result.lo e.result.hi) c.put.ensures)

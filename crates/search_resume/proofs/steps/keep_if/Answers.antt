@@ -6,9 +6,8 @@ use Rattle.search_resume.proofs.steps.keep_if.Goals as goal
 
 pub returns-then-last : goal.returns-then-last
 returns-then-last c =
-    let s = c in
-    c.copy_bytes.ensures ∙ pasted_whole s.args.reached.now s.args.entries.now s.requires.0 s.requires.1
-    ∙ ap (λ (b : Bool). cond b s.args.entries.now s.args.reached.now) (sym c.if-last.true)
+    c.copy_bytes.ensures ∙ pasted_whole c.args.reached.now c.args.entries.now c.requires.0 c.requires.1
+    ∙ ap (λ (b : Bool). cond b c.args.entries.now c.args.reached.now) (sym c.if-last.true)
 
 pub returns-else-last : goal.returns-else-last
 returns-else-last c =

@@ -16,8 +16,7 @@ use Rattle.search_resume.proofs.steps.make_steps.Goals as goal
 
 pub loop-size-init : goal.loop-size-init
 loop-size-init c =
-    let s = c in
-    (going_starts s.requires.0.0 s.requires.0.1 s.requires.1.0 s.requires.1.1 s.requires.1.2 s.requires.0.2, omega (arith, s.requires.0.1), s.requires.1.0, s.requires.1.0)
+    (going_starts c.requires.0.0 c.requires.0.1 c.requires.1.0 c.requires.1.1 c.requires.1.2 c.requires.0.2, omega (arith, c.requires.0.1), c.requires.1.0, c.requires.1.0)
 
 pub keep_if-requires : goal.keep_if-requires
 keep_if-requires c = let l = c.loop-size in (l.invariant.0.whole, l.invariant.3)

@@ -1,7 +1,6 @@
 -- The position is made again; what follows depends on whether it is consistent and whether it is full.
 use Rattle.search_resume.proofs.SearchFromLaws.{search_from_broken, search_from_full, search_from_ran}
 use Rattle.search_resume.proofs.ReplayLaws.{kept_none}
-use borrow.Author.Tests.{not-false}
 use lib.ListN.{get_or-replicate, length-replicate}
 use mathlib.Core.Path.{refl}
 use native.Mathlib.Omega.{arith}
@@ -34,7 +33,7 @@ pub make_steps-requires : goal.make_steps-requires
 make_steps-requires c =
     let pre = c.requires in
     let made = c.replay-consistent.ensures in
-    ((pre.0, omega (arith, pre.1, c.if-length-n.false), made.kept (not-false _ c.if-not-consistent.false), pre.4), (pre.3, made.long, made.wide))
+    ((pre.0, omega (arith, pre.1, c.if-length-n.false), made.kept (c.if-not-consistent.false), pre.4), (pre.3, made.long, made.wide))
 
 pub returns : goal.returns
 returns c =

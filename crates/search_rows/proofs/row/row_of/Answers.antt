@@ -14,72 +14,59 @@ pub bounds-owners-number : goal.bounds-owners-number
 bounds-owners-number c = omega (arith, c.requires.2, (c.requires.0 []).tabled.counts, (c.requires.1 []).operations_few)
 
 pub bounds-roles-number : goal.bounds-roles-number
-bounds-roles-number c = let s = c in omega (arith, s.requires.2, (s.requires.0 []).tabled.counts, (s.requires.1 []).operations_few)
+bounds-roles-number c = omega (arith, c.requires.2, (c.requires.0 []).tabled.counts, (c.requires.1 []).operations_few)
 
 pub bounds-kinds-w : goal.bounds-kinds-w
 bounds-kinds-w c =
-    let s = c in
-    (owner_few (s.requires.0 []) (s.requires.1 []) s.args.o.0 s.requires.2 s.requires.3 c.wide-w.result c.wide-w.ensures.0).0
+    (owner_few (c.requires.0 []) (c.requires.1 []) c.args.o.0 c.requires.2 c.requires.3 c.wide-w.result c.wide-w.ensures.0).0
 
 pub bounds-firsts-w : goal.bounds-firsts-w
 bounds-firsts-w c =
-    let s = c in
-    (owner_few (s.requires.0 []) (s.requires.1 []) s.args.o.0 s.requires.2 s.requires.3 c.wide-w.result c.wide-w.ensures.0).0
+    (owner_few (c.requires.0 []) (c.requires.1 []) c.args.o.0 c.requires.2 c.requires.3 c.wide-w.result c.wide-w.ensures.0).0
 
 pub bounds-processors-w : goal.bounds-processors-w
 bounds-processors-w c =
-    let s = c in
-    (owner_few (s.requires.0 []) (s.requires.1 []) s.args.o.0 s.requires.2 s.requires.3 c.wide-w.result c.wide-w.ensures.0).0
+    (owner_few (c.requires.0 []) (c.requires.1 []) c.args.o.0 c.requires.2 c.requires.3 c.wide-w.result c.wide-w.ensures.0).0
 
 pub bounds-addresses-w : goal.bounds-addresses-w
 bounds-addresses-w c =
-    let s = c in
-    (owner_few (s.requires.0 []) (s.requires.1 []) s.args.o.0 s.requires.2 s.requires.3 c.wide-w.result c.wide-w.ensures.0).0
+    (owner_few (c.requires.0 []) (c.requires.1 []) c.args.o.0 c.requires.2 c.requires.3 c.wide-w.result c.wide-w.ensures.0).0
 
 pub preds_at-preds-requires : goal.preds_at-preds-requires
 preds_at-preds-requires c =
-    let s = c in
-    (few_instructions [] s.args.x (s.requires.1 []), few_processors [] s.args.x (s.requires.1 []), (owner_few (s.requires.0 []) (s.requires.1 []) s.args.o.0 s.requires.2 s.requires.3 c.wide-w.result c.wide-w.ensures.0).0)
+    (few_instructions [] c.args.x (c.requires.1 []), few_processors [] c.args.x (c.requires.1 []), (owner_few (c.requires.0 []) (c.requires.1 []) c.args.o.0 c.requires.2 c.requires.3 c.wide-w.result c.wide-w.ensures.0).0)
 
 pub bounds-marks-w : goal.bounds-marks-w
 bounds-marks-w c =
-    let s = c in
-    (owner_few (s.requires.0 []) (s.requires.1 []) s.args.o.0 s.requires.2 s.requires.3 c.wide-w.result c.wide-w.ensures.0).0
+    (owner_few (c.requires.0 []) (c.requires.1 []) c.args.o.0 c.requires.2 c.requires.3 c.wide-w.result c.wide-w.ensures.0).0
 
 pub bounds-marks-w-2 : goal.bounds-marks-w-2
 bounds-marks-w-2 c =
-    let s = c in
-    (owner_few (s.requires.0 []) (s.requires.1 []) s.args.o.0 s.requires.2 s.requires.3 c.wide-w.result c.wide-w.ensures.0).0
+    (owner_few (c.requires.0 []) (c.requires.1 []) c.args.o.0 c.requires.2 c.requires.3 c.wide-w.result c.wide-w.ensures.0).0
 
 pub partners_at-partners-requires : goal.partners_at-partners-requires
 partners_at-partners-requires c =
-    let s = c in
-    (c.wide16-first.ensures.1, few_processors [] s.args.x (s.requires.1 []))
+    (c.wide16-first.ensures.1, few_processors [] c.args.x (c.requires.1 []))
 
 pub awaited_at-awaited-requires : goal.awaited_at-awaited-requires
 awaited_at-awaited-requires c =
-    let s = c in
-    (few_instructions [] s.args.x (s.requires.1 []), (owner_few (s.requires.0 []) (s.requires.1 []) s.args.o.0 s.requires.2 s.requires.3 c.wide-w.result c.wide-w.ensures.0).0)
+    (few_instructions [] c.args.x (c.requires.1 []), (owner_few (c.requires.0 []) (c.requires.1 []) c.args.o.0 c.requires.2 c.requires.3 c.wide-w.result c.wide-w.ensures.0).0)
 
 pub bypasses_at-bypasses-requires : goal.bypasses_at-bypasses-requires
 bypasses_at-bypasses-requires c =
-    let s = c in
-    (few_instructions [] s.args.x (s.requires.1 []), (owner_few (s.requires.0 []) (s.requires.1 []) s.args.o.0 s.requires.2 s.requires.3 c.wide-w.result c.wide-w.ensures.0).0)
+    (few_instructions [] c.args.x (c.requires.1 []), (owner_few (c.requires.0 []) (c.requires.1 []) c.args.o.0 c.requires.2 c.requires.3 c.wide-w.result c.wide-w.ensures.0).0)
 
 pub words_at-covered-requires : goal.words_at-covered-requires
 words_at-covered-requires c =
-    let s = c in
-    (owner_few (s.requires.0 []) (s.requires.1 []) s.args.o.0 s.requires.2 s.requires.3 c.wide-w.result c.wide-w.ensures.0).0
+    (owner_few (c.requires.0 []) (c.requires.1 []) c.args.o.0 c.requires.2 c.requires.3 c.wide-w.result c.wide-w.ensures.0).0
 
 pub words_at-saw-requires : goal.words_at-saw-requires
 words_at-saw-requires c =
-    let s = c in
-    (owner_few (s.requires.0 []) (s.requires.1 []) s.args.o.0 s.requires.2 s.requires.3 c.wide-w.result c.wide-w.ensures.0).0
+    (owner_few (c.requires.0 []) (c.requires.1 []) c.args.o.0 c.requires.2 c.requires.3 c.wide-w.result c.wide-w.ensures.0).0
 
 pub words_at-wrote-requires : goal.words_at-wrote-requires
 words_at-wrote-requires c =
-    let s = c in
-    (owner_few (s.requires.0 []) (s.requires.1 []) s.args.o.0 s.requires.2 s.requires.3 c.wide-w.result c.wide-w.ensures.0).0
+    (owner_few (c.requires.0 []) (c.requires.1 []) c.args.o.0 c.requires.2 c.requires.3 c.wide-w.result c.wide-w.ensures.0).0
 
 pub word_of-written_word-requires : goal.word_of-written_word-requires
 word_of-written_word-requires c = (c.wide-processor.ensures.1, omega (arith, c.wide-address.ensures.1))
@@ -98,9 +85,8 @@ read_or_own-read-requires c = c.wide16-first.ensures.1
 
 pub returns : goal.returns
 returns c =
-    let s = c in
-    let g = s.args in
-    let pre = s.requires in
+    let g = c.args in
+    let pre = c.requires in
     let lent = pre.3 in
     let w = c.wide-w.result in
     let few = (owner_few (pre.0 []) (pre.1 []) g.o.0 pre.2 lent w c.wide-w.ensures.0).1 in

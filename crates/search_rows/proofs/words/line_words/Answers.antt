@@ -10,26 +10,23 @@ use Rattle.search_rows.proofs.words.line_words.Goals as goal
 
 pub relative_from-seen-requires : goal.relative_from-seen-requires
 relative_from-seen-requires c =
-    let s = c in
     let inside = c.span_in-span.ensures in
-    (s.requires.0, s.requires.1, omega (arith, inside.data_within 0 (omega arith) (omega (arith, s.requires.4))), omega (arith, inside.low, s.requires.2, s.requires.5), omega (arith, inside.low, inside.onward, inside.within))
+    (c.requires.0, c.requires.1, omega (arith, inside.data_within 0 (omega arith) (omega (arith, c.requires.4))), omega (arith, inside.low, c.requires.2, c.requires.5), omega (arith, inside.low, inside.onward, inside.within))
 
 pub written_value-written-requires : goal.written_value-written-requires
 written_value-written-requires c =
-    let s = c in
     let inside = c.span_in-span.ensures in
     let seen = c.relative_from-seen.ensures in
-    let g = s.args in
+    let g = c.args in
     let skipped = 8 * g.h + c.span_in-span.result.first - g.address % 8 in (
-      (s.requires.0, s.requires.1, omega (arith, inside.low, s.requires.2, s.requires.5), omega (arith, inside.low, inside.onward, inside.within), inside.data_within (written_from (meant g.kind)) (written_few (meant g.kind)) s.requires.4),
+      (c.requires.0, c.requires.1, omega (arith, inside.low, c.requires.2, c.requires.5), omega (arith, inside.low, inside.onward, inside.within), inside.data_within (written_from (meant g.kind)) (written_few (meant g.kind)) c.requires.4),
       λ i l. seen i l ∙ ap (λ (at : ℕ). relative_bit g.bytes.now g.count g.«data».now at (g.address + skipped) c.span_in-span.result.count i) (let z : 16 * g.w.0 + skipped ≡ 16 * g.w.0 + (0 + skipped) = omega arith in z),
     )
 
 pub returns : goal.returns
 returns c =
-    let s = c in
     let inside = c.span_in-span.ensures in
-    let g = s.args in
+    let g = c.args in
     let skipped = 8 * g.h + c.span_in-span.result.first - g.address % 8 in
     let n = c.span_in-span.result.count in
     let here = relative_bit g.bytes.now g.count g.«data».now in

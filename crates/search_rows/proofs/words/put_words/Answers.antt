@@ -15,12 +15,11 @@ loop-j-init c = let l = c.requires.1 in (refl, omega arith, entered_none l.0, en
 
 pub line_words-words-requires : goal.line_words-words-requires
 line_words-words-requires c =
-    let s = c in
     let j = c.loop-j.j in
-    let few : j / 2 < s.args.x.instructions.count = omega (arith, c.loop-j-test.true) in
-    let inside = s.requires.0.2 (j / 2) few in (
-      s.requires.0.1,
-      omega (arith, few, s.requires.0.0),
+    let few : j / 2 < c.args.x.instructions.count = omega (arith, c.loop-j-test.true) in
+    let inside = c.requires.0.2 (j / 2) few in (
+      c.requires.0.1,
+      omega (arith, few, c.requires.0.0),
       c.wide-address.ensures.1,
       omega (arith, inside.two_lines, c.wide-address.ensures.0, c.wide-size.ensures.0),
       omega (arith, inside.few, c.wide-size.ensures.0, ap written_from c.kind_of-kind.ensures),
@@ -38,19 +37,18 @@ loop-j-preserved c =
     let turn = c.loop-j-test.true in
     let j = c.loop-j.j in
     let inv = c.loop-j.invariant in
-    let g = c in
     let address = c.wide-address.ensures.0 in
     let size = c.wide-size.ensures.0 in
     let made = c.line_words-words.ensures in
-    let here = relative_bit g.args.bytes.now g.args.x.lines.count g.args.x.instructions.bytes in
-    let room : j < 80 = omega (arith, turn, g.requires.0.0) in (
+    let here = relative_bit c.args.bytes.now c.args.x.lines.count c.args.x.instructions.bytes in
+    let room : j < 80 = omega (arith, turn, c.requires.0.0) in (
       refl,
       omega (arith, turn),
       entered_more inv.2 c.line_words-words.result.bits room (λ i l. made.0 i l ∙ ap₂ (λ (a s : ℕ). covered_bit a s (64 * (j % 2) + i)) address size),
       entered_more inv.3 c.line_words-words.result.seen room (λ i l. made.1 i l ∙ ap₂ (λ (a s : ℕ). here (16 * (j / 2) + 0) a s (64 * (j % 2) + i)) address size),
       entered_more inv.4 c.line_words-words.result.written room
           (λ i l. made.2 i l ∙ ap (λ (k : Kind). here (16 * (j / 2) + written_from k) c.wide-address.result c.wide-size.result (64 * (j % 2) + i)) c.kind_of-kind.ensures
-          ∙ ap₂ (λ (a s : ℕ). here (16 * (j / 2) + written_from (kind_of (get_or g.args.x.instructions.kinds (j / 2) 0))) a s (64 * (j % 2) + i)) address size),
+          ∙ ap₂ (λ (a s : ℕ). here (16 * (j / 2) + written_from (kind_of (get_or c.args.x.instructions.kinds (j / 2) 0))) a s (64 * (j % 2) + i)) address size),
     )
 
 pub returns : goal.returns

@@ -8,8 +8,7 @@ use Rattle.search_rows.proofs.words.written_value.Goals as goal
 
 pub relative_from-requires : goal.relative_from-requires
 relative_from-requires c =
-    let s = c in
-    (s.requires.0.0, s.requires.0.1, omega (arith, s.requires.0.4, c.written_from.ensures.0), s.requires.0.2, s.requires.0.3)
+    (c.requires.0.0, c.requires.0.1, omega (arith, c.requires.0.4, c.written_from.ensures.0), c.requires.0.2, c.requires.0.3)
 
 pub returns-then-is_semaphore : goal.returns-then-is_semaphore
 returns-then-is_semaphore c =
@@ -20,7 +19,6 @@ returns-then-is_semaphore c =
 pub returns-else-is_semaphore : goal.returns-else-is_semaphore
 returns-else-is_semaphore c =
     λ i l.
-    let s = c in
-    let g = s.args in
-    s.requires.1 i l
+    let g = c.args in
+    c.requires.1 i l
     ∙ ap (λ (b : Bool). relative_bit g.bytes.now g.count g.«data».now (16 * g.w.0 + (cond b 8 0 + g.skipped)) g.address g.size i) (sym c.if-is_semaphore.false ∙ c.is_semaphore.ensures)

@@ -1,7 +1,6 @@
 -- Each turn is one call of the definition.
 use native.Mathlib.Omega.{arith}
 use mathlib.Core.Path.{sym, ◌∙◌}
-use borrow.Author.Tests.{not-true, not-false}
 use Rattle.verdict.proofs.CallLaws.{calls_start, call_short, calls_turn, calls_stop, calls_spent}
 use Rattle.verdict.proofs.calls.search_in_calls.Goals as goal
 
@@ -12,7 +11,7 @@ pub returns-then-not-is_unfinished : goal.returns-then-not-is_unfinished
 returns-then-not-is_unfinished c =
     let inv = c.loop-calls.invariant in
     let called = c.search-reply in
-    let told = sym c.is_unfinished.ensures ∙ not-true c.is_unfinished.result c.if-not-is_unfinished.true in (
+    let told = sym c.is_unfinished.ensures ∙ c.if-not-is_unfinished.true in (
       calls_stop inv called.result called.ensures called.auto.1.0 (omega arith) told,
       call_short inv called.result called.ensures called.auto.1.0,
       called.auto.1.0 ∙ inv.long,
@@ -25,7 +24,7 @@ pub loop-calls-preserved : goal.loop-calls-preserved
 loop-calls-preserved c =
     let inv = c.loop-calls.invariant in
     let called = c.search-reply in
-    let told = sym c.is_unfinished.ensures ∙ not-false c.is_unfinished.result c.if-not-is_unfinished.false in
+    let told = sym c.is_unfinished.ensures ∙ c.if-not-is_unfinished.false in
     calls_turn inv called.result called.ensures called.auto.1.0 (omega arith) (omega arith) told
 
 pub returns : goal.returns
