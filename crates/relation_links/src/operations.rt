@@ -24,8 +24,8 @@ fn with_operations(
     instruction: InstructionNo,
     processors: usize,
 ) -> Operations
-    requires instruction_bound { (instruction.0 < 40) × (processors ≤ 8) × (t.count ≡ get_or is.firsts instruction.0 0) }
-    requires instruction_bound_2 { t.count + length (roles processors (kind_of (get_or is.kinds instruction.0 0))) ≤ 128 }
+    requires next { (instruction.0 < 40) × (processors ≤ 8) × (t.count ≡ get_or is.firsts instruction.0 0) }
+    requires room { t.count + length (roles processors (kind_of (get_or is.kinds instruction.0 0))) ≤ 128 }
     ensures { Tabled is result (table_of is t ++ operations_of processors (instruction_at is instruction.0)) (t.count + length (roles processors (kind_of (get_or is.kinds instruction.0 0)))) }
 {
     let number = instruction.0;
@@ -50,7 +50,7 @@ fn with_operations(
 
 // The operations of all instructions, by number.
 pub fn operations_of(is: Instructions, processors: usize) -> Operations
-    requires processors_bound { (processors ≤ 8) × (is.count ≤ 40) × (operation_count processors (instructions_of is) ≤ 128) }
+    requires bounds { (processors ≤ 8) × (is.count ≤ 40) × (operation_count processors (instructions_of is) ≤ 128) }
     requires consecutive { Consecutive processors 0 0 (instructions_of is) }
     ensures { Tabled is result (for (instructions_of is) (operations_of processors)) (operation_count processors (instructions_of is)) }
 {

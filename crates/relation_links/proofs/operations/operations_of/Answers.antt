@@ -11,10 +11,10 @@ pub with_operations-table-requires : goal.with_operations-table-requires
 with_operations-table-requires c =
     let a = c.args in
     let table = c.loop-i.table in
-    let inv = c.loop-i.invariant in (
-      (omega arith, omega arith, next_first a.is table table c.loop-i.i a.processors c.loop-i-test.true inv.1 c.requires.1),
-      next_fits a.is table table c.loop-i.i a.processors c.loop-i-test.true inv.1 c.requires.1 c.requires.0.2,
-    )
+    let inv = c.loop-i.invariant in record {
+      next = (omega arith, omega arith, next_first a.is table table c.loop-i.i a.processors c.loop-i-test.true inv.1 c.requires.consecutive);
+      room = next_fits a.is table table c.loop-i.i a.processors c.loop-i-test.true inv.1 c.requires.consecutive c.requires.bounds.2;
+    }
 
 pub loop-i-smaller : goal.loop-i-smaller
 loop-i-smaller c = omega arith
@@ -23,7 +23,7 @@ pub loop-i-preserved : goal.loop-i-preserved
 loop-i-preserved c =
     let a = c.args in (
       omega arith,
-      next_table a.is c.loop-i.table c.with_operations-table.result c.loop-i.i a.processors c.loop-i-test.true c.loop-i.invariant.1 c.requires.1
+      next_table a.is c.loop-i.table c.with_operations-table.result c.loop-i.i a.processors c.loop-i-test.true c.loop-i.invariant.1 c.requires.consecutive
           c.with_operations-table.ensures,
     )
 

@@ -10,12 +10,8 @@ use borrow.Author.Rules.{rules}
 use Rattle.relation_links.proofs.operations.with_operations.Goals as goal
 
 -- the operations fit the table
-room : (c : tie.In-loop invariant-loop decreases-loop) → c.before.before.before.before.before.before.before.args.t.count + c.before.before.before.before.operation-count.result ≤ 128
-room c =
-    let a = c.before.before.before.before.before.before.before.args in
-    let n : c.before.before.before.before.operation-count.result ≡ length (roles a.processors (kind_of (get_or a.is.kinds a.instruction.0 0))) =
-    c.before.before.before.before.operation-count.ensures ∙ ap (λ (k : Kind). length (roles a.processors k)) c.before.before.before.before.before.kind-of.ensures in
-    omega (arith, n, c.before.before.before.before.before.before.before.requires.1)
+room : (count processors : ℕ) {n : ℕ} {k j : Kind} → n ≡ length (roles processors k) → k ≡ j → count + length (roles processors j) ≤ 128 → count + n ≤ 128
+room count processors e f h = omega (arith, h, e ∙ ap (λ (k : Kind). length (roles processors k)) f)
 
 pub loop-place-init : goal.loop-place-init
 loop-place-init c =
@@ -24,37 +20,37 @@ loop-place-init c =
     (omega arith, filled_none long long_roles)
 
 pub overflow_add-o : goal.overflow_add-o
-overflow_add-o c = omega (arith, room c)
+overflow_add-o c = omega (arith, room c.args.t.count c.args.processors c.operation_count-n.ensures c.kind_of-kind.ensures c.requires.room)
 
 pub overflow_cast-owners : goal.overflow_cast-owners
 overflow_cast-owners c = omega arith
 
 pub bounds-owners-o : goal.bounds-owners-o
-bounds-owners-o c = omega (arith, room c)
+bounds-owners-o c = omega (arith, room c.args.t.count c.args.processors c.operation_count-n.ensures c.kind_of-kind.ensures c.requires.room)
 
 pub overflow_cast-place : goal.overflow_cast-place
-overflow_cast-place c = omega (arith, room c)
+overflow_cast-place c = omega (arith, room c.args.t.count c.args.processors c.operation_count-n.ensures c.kind_of-kind.ensures c.requires.room)
 
 pub role_of-requires : goal.role_of-requires
-role_of-requires c = omega (arith, room c)
+role_of-requires c = omega (arith, room c.args.t.count c.args.processors c.operation_count-n.ensures c.kind_of-kind.ensures c.requires.room)
 
 pub bounds-roles-o : goal.bounds-roles-o
-bounds-roles-o c = omega (arith, room c)
+bounds-roles-o c = omega (arith, room c.args.t.count c.args.processors c.operation_count-n.ensures c.kind_of-kind.ensures c.requires.room)
 
 pub overflow_step-place : goal.overflow_step-place
-overflow_step-place c = omega (arith, room c)
+overflow_step-place c = omega (arith, room c.args.t.count c.args.processors c.operation_count-n.ensures c.kind_of-kind.ensures c.requires.room)
 
 pub loop-place-smaller : goal.loop-place-smaller
 loop-place-smaller c = omega arith
 
 pub loop-place-preserved : goal.loop-place-preserved
-loop-place-preserved c = (omega arith, filled_more c.loop-place.invariant.1 c.role_of.result (omega (arith, room c)) c.role_of.ensures)
+loop-place-preserved c = (omega arith, filled_more c.loop-place.invariant.1 c.role_of.result (omega (arith, room c.args.t.count c.args.processors c.operation_count-n.ensures c.kind_of-kind.ensures c.requires.room)) c.role_of.ensures)
 
 pub overflow_add-count : goal.overflow_add-count
 overflow_add-count c =
     let a = c.args in
     let n = c.operation_count-n.ensures ∙ ap (λ (k : Kind). length (roles a.processors k)) c.kind_of-kind.ensures in
-    omega (arith, n, c.requires.1)
+    omega (arith, n, c.requires.room)
 
 pub returns : goal.returns
 returns c =
@@ -64,7 +60,7 @@ returns c =
     let n : c.operation_count-n.result ≡ length (roles a.processors kind) = c.operation_count-n.ensures in
     let all : c.loop-place.place ≡ length (roles a.processors kind) = omega (arith, n, inv.0, c.loop-place-test.false) in
     record {
-      holds = table_more a.is a.t (record { count = a.t.count + c.operation_count-n.result; owners = c.loop-place.owners; roles = c.loop-place.roles }) a.instruction.0 a.processors kind c.kind_of-kind.ensures c.requires.0.2
+      holds = table_more a.is a.t (record { count = a.t.count + c.operation_count-n.result; owners = c.loop-place.owners; roles = c.loop-place.roles }) a.instruction.0 a.processors kind c.kind_of-kind.ensures c.requires.next.2
           (ap (λ (k : ℕ). a.t.count + k) n)
           (subst (λ (k : ℕ). Filled a.t.owners a.t.roles a.t.count a.instruction.0 kind k c.loop-place.owners c.loop-place.roles) all inv.1);
       counts = ap (λ (k : ℕ). a.t.count + k) n ∙ ap (λ (k : Kind). a.t.count + length (roles a.processors k)) c.kind_of-kind.ensures;

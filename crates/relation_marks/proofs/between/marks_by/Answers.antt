@@ -9,13 +9,13 @@ use Rattle.relation_marks.proofs.between.marks_by.Goals as goal
 pub returns-then-not-either : goal.returns-then-not-either
 returns-then-not-either c =
     let g = c.args in
-    unrelated_together g.same g.own g.earlier g.overlaps g.given (meant g.first) (meant g.second) (attribute_meant g.of-first) (attribute_meant g.of-second)
+    unrelated_together g.same g.own g.earlier g.overlaps g.given (meant g.first) (meant g.second) (attribute_meant g.of_first) (attribute_meant g.of_second)
     (sym c.either.ensures ∙ c.if-not-either.true) c.unrelated_marks.ensures c.memory_marks-memory.ensures.0 c.semaphore_marks-semaphores.ensures.0
 
 pub returns : goal.returns
 returns c =
     let g = c.args in
-    put_together g.same g.own g.earlier g.overlaps g.given (meant g.first) (meant g.second) (attribute_meant g.of-first) (attribute_meant g.of-second)
+    put_together g.same g.own g.earlier g.overlaps g.given (meant g.first) (meant g.second) (attribute_meant g.of_first) (attribute_meant g.of_second)
     c.with_mark.ensures.0 c.with_program_marks-program.ensures.0
     (mark_more c.with_mark-overlap.ensures.0 c.both-2.ensures refl)
     c.with_mark-pair.ensures.0
