@@ -1,4 +1,6 @@
 -- The words passed are as recorded; the first that is not decides.
+use mathlib.Core.Path.{ap}
+use mathlib.Core.Bool.{not}
 use native.Mathlib.Omega.{arith}
 use Rattle.base.proofs.Tests.{starts, turns, stops, ends}
 use Rattle.search_admit.proofs.TestLaws.{word_is, reads_all}
@@ -17,7 +19,7 @@ returns-then-not-reads_word c =
     let l = c.loop-h in
     reads_all a.rows.now a.words.now a.stand.lo a.stand.hi a.x.0 c.words_read-n.ensures.0
     (stops l.invariant.1 c.loop-h-test.true
-    (word_is a.rows.now a.words.now a.stand.lo a.stand.hi a.x.0 l.h _ c.reads_word.ensures c.local_bits-local.ensures) c.if-not-reads_word.true)
+    (word_is a.rows.now a.words.now a.stand.lo a.stand.hi a.x.0 l.h _ c.reads_word.ensures c.local_bits-local.ensures) (ap not c.if-not-reads_word.true))
 
 pub loop-h-smaller : goal.loop-h-smaller
 loop-h-smaller c = omega (arith, c.loop-h-test.true)
@@ -28,7 +30,7 @@ loop-h-preserved c =
     let l = c.loop-h in (
       l.invariant.0,
       turns l.invariant.1 c.loop-h-test.true
-          (word_is a.rows.now a.words.now a.stand.lo a.stand.hi a.x.0 l.h _ c.reads_word.ensures c.local_bits-local.ensures) c.if-not-reads_word.false,
+          (word_is a.rows.now a.words.now a.stand.lo a.stand.hi a.x.0 l.h _ c.reads_word.ensures c.local_bits-local.ensures) (ap not c.if-not-reads_word.false),
     )
 
 pub returns : goal.returns
