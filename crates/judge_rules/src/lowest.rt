@@ -33,7 +33,7 @@ fn rule_broken(
     marks: &[[u16; MOST_INSTRUCTIONS]; MOST_INSTRUCTIONS],
     places: &[u8; Position::LIMIT],
 ) -> bool
-    requires le_rule { (1 ≤ rule) × (rule ≤ 16) × (x.instructions.count ≤ 40) × (x.lines.count ≤ 8) × (x.processors ≤ 8) × (t.count ≤ 128) }
+    requires bounds { (1 ≤ rule) × (rule ≤ 16) × (x.instructions.count ≤ 40) × (x.lines.count ≤ 8) × (x.processors ≤ 8) × (t.count ≤ 128) }
     requires compiled { Compiled x t marks.now }
     ensures { (n : ℕ) (xs : List ℕ) → Placed n xs places.now → result ≡ any (broken xs) (get_or (rules (execution_of bytes.now x)) (rule - 1) []) }
 {
@@ -63,7 +63,7 @@ pub fn lowest_broken(
     marks: &[[u16; MOST_INSTRUCTIONS]; MOST_INSTRUCTIONS],
     places: &[u8; Position::LIMIT],
 ) -> Lowest
-    requires count_bound { (x.instructions.count ≤ 40) × (x.lines.count ≤ 8) × (x.processors ≤ 8) × (t.count ≤ 128) }
+    requires bounds { (x.instructions.count ≤ 40) × (x.lines.count ≤ 8) × (x.processors ≤ 8) × (t.count ≤ 128) }
     requires compiled { Compiled x t marks.now }
     ensures { (n : ℕ) (xs : List ℕ) → Placed n xs places.now → lowest_meant result ≡ lowest_broken (execution_of bytes.now x) xs }
 {

@@ -171,8 +171,8 @@ data_bit bytes x w from i =
 abbrev pub visible_at : ℕ → ℕ → ℕ
 visible_at p line = 8 * p + line
 
-abbrev pub field_own : ℕ → ℕ → ℕ
-field_own p line = 64 + 8 * p + line
+abbrev pub own_at : ℕ → ℕ → ℕ
+own_at p line = 64 + 8 * p + line
 
 -- the role of an LV or an RV
 abbrev pub writes : ℕ → Bool
@@ -225,7 +225,7 @@ module _ (x : Execution) (t : Operations) (marks : List (List ℕ)) (o : ℕ) wh
     pub bypasses_are : (a : ℕ) → a < 128 → holds (row 11) (row 12) a ≡ any_below x.instructions.count (λ v. bypass_of v a)
     pub writes_bits : (h i : ℕ) → h < 2 → i < 64 → bit (row (5 + h)) i ≡ (writes role && covers x owner (64 * h + i))
     pub writes_data : (h i : ℕ) → h < 2 → i < 64 → bit (row (7 + h)) i ≡ (writes role && data_bit bytes x owner (written_from kind) (64 * h + i))
-    pub writes_word : writes role ≡ true → row 4 ≡ cond (eqb role 1) (field_own processor line) (visible_at (role - 3) line)
+    pub writes_word : writes role ≡ true → row 4 ≡ cond (eqb role 1) (own_at processor line) (visible_at (role - 3) line)
     pub reads_bits : (h i : ℕ) → h < 2 → i < 64 → bit (row (14 + h)) i ≡ (eqb role 0 && covers x owner (64 * h + i))
     pub reads_data : (h i : ℕ) → h < 2 → i < 64 → bit (row (16 + h)) i ≡ (eqb role 0 && data_bit bytes x owner 0 (64 * h + i))
     pub reads_visible : role ≡ 0 → row 13 ≡ visible_at processor line

@@ -170,7 +170,7 @@ module _ (address size h : ℕ) {first n : ℕ} (inside : InWord (address % 8) s
       ∙ ap (bit (relative (get_or values (at + ((64 * h + i) / 8 - address % 8)) 0) (initial_of bytes count (8 * (address / 8) + (64 * h + i) / 8)))) same_bit)
 
 -- the bits of an instruction, by its place in the line
-module _ (x : Execution) (w : ℕ) {address size : ℕ} (is_Address : address ≡ get_or x.instructions.addresses w 0) (is_size : size ≡ get_or x.instructions.sizes w 0) where
+module _ (x : Execution) (w : ℕ) {address size : ℕ} (is_address : address ≡ get_or x.instructions.addresses w 0) (is_size : size ≡ get_or x.instructions.sizes w 0) where
   abbrev first : ℕ
   first = get_or x.instructions.addresses w 0
 
@@ -180,7 +180,7 @@ module _ (x : Execution) (w : ℕ) {address size : ℕ} (is_Address : address �
   pub covers_by : (i : ℕ) → covered_bit address size i ≡ covers x w i
   unfolding covers accesses instruction_at
   covers_by i =
-      ap₂ (λ (a s : ℕ). leb (a % 8) (i / 8) && ltb (i / 8) (a % 8 + s)) is_Address is_size
+      ap₂ (λ (a s : ℕ). leb (a % 8) (i / 8) && ltb (i / 8) (a % 8 + s)) is_address is_size
       ∙ ap₂ ◌&&◌
       (agree (leb (first % 8) (i / 8)) (leb first (8 * (first / 8) + i / 8)) (λ t. le-leb first (8 * (first / 8) + i / 8) (omega (arith, leb-true (first % 8) (i / 8) t)))
       (λ t. le-leb (first % 8) (i / 8) (omega (arith, leb-true first (8 * (first / 8) + i / 8) t))))
@@ -192,4 +192,4 @@ module _ (x : Execution) (w : ℕ) {address size : ℕ} (is_Address : address �
   unfolding data_bit
   data_by bytes {values} lent from i =
       ap (λ (own : List ℕ). relative_bit bytes x.lines.count own (16 * w + from) address size i) lent
-      ∙ ap₂ (λ (b : Bool) (a : ℕ). b && bit (relative (get_or x.instructions.bytes (16 * w + from + (i / 8 - a % 8)) 0) (initial_of bytes x.lines.count (8 * (a / 8) + i / 8))) (i % 8)) (covers_by i) is_Address
+      ∙ ap₂ (λ (b : Bool) (a : ℕ). b && bit (relative (get_or x.instructions.bytes (16 * w + from + (i / 8 - a % 8)) 0) (initial_of bytes x.lines.count (8 * (a / 8) + i / 8))) (i % 8)) (covers_by i) is_address

@@ -1,6 +1,6 @@
 -- Not an RV, not of a release to WB, and else the RVs of the instruction.
 use mathlib.Core.Path.{ap, ◌∙◌}
-use mathlib.Core.Bool.{Bool, ◌||◌}
+use mathlib.Core.Bool.{Bool, ◌||◌, not}
 use Rattle.search_sets.proofs.Members.{holds_none}
 use Rattle.search_constraints.specs.Rows.{is_remote}
 use Rattle.search_constraints.proofs.PartnerLaws.{no_remote, no_atomic, atomic_remotes}
@@ -15,10 +15,10 @@ returns-then-role-lt-ROLE_RV c = λ k l.
 pub returns-then-not-has_mark : goal.returns-then-not-has_mark
 returns-then-not-has_mark c = λ k l.
     let a = c.args in
-    holds_none k ∙ no_atomic a.marks a.role (meant a.kind) a.first.0 a.processors k c.has_mark.ensures c.if-not-has_mark.true
+    holds_none k ∙ no_atomic a.marks a.role (meant a.kind) a.first.0 a.processors k c.has_mark.ensures (ap not c.if-not-has_mark.true)
 
 pub returns : goal.returns
 returns c = λ k l.
     let a = c.args in
     c.with_every_remote.ensures k l ∙ ap (λ (b : Bool). b || is_remote (meant a.kind) a.first.0 a.processors k) (holds_none k)
-    ∙ atomic_remotes a.marks a.role (meant a.kind) a.first.0 a.processors k c.has_mark.ensures c.if-role-lt-ROLE_RV.false c.if-not-has_mark.false
+    ∙ atomic_remotes a.marks a.role (meant a.kind) a.first.0 a.processors k c.has_mark.ensures c.if-role-lt-ROLE_RV.false (ap not c.if-not-has_mark.false)

@@ -9,7 +9,7 @@ pub loop-k-init : goal.loop-k-init
 loop-k-init c = (omega arith, λ n xs p. decided_first (execution_of c.args.bytes.now c.args.x) xs)
 
 pub rule_broken-requires : goal.rule_broken-requires
-rule_broken-requires c = let pre = c.requires in ((omega arith, omega (arith, c.loop-k-test.true), pre.0.0, pre.0.1, pre.0.2, pre.0.3), pre.1)
+rule_broken-requires c = let pre = c.requires in record { bounds = (omega arith, omega (arith, c.loop-k-test.true), pre.bounds.0, pre.bounds.1, pre.bounds.2, pre.bounds.3); compiled = pre.compiled }
 
 pub returns-then-rule_broken : goal.returns-then-rule_broken
 returns-then-rule_broken c = λ n xs p. decided_broken (c.loop-k.invariant.1 n xs p) c.loop-k-test.true (at_index (execution_of c.args.bytes.now c.args.x) xs c.loop-k.k ∙ sym (c.rule_broken.ensures n xs p) ∙ c.if-rule_broken.true)
