@@ -69,7 +69,7 @@ fn search_on(
     allowance: u32,
 ) -> SearchReply
     requires accepted { Accepted (execution_of bytes.now x) × Compiled x t marks.now }
-    requires saved_le_count { (saved ≤ t.count) × (t.count ≤ length buffer.old) × (distinct t.count [] (take saved buffer.old) ≡ true) }
+    requires saved { (saved ≤ t.count) × (t.count ≤ length buffer.old) × (distinct t.count [] (take saved buffer.old) ≡ true) }
     ensures { reply_of result buffer.new ≡ search_reply saved buffer.old (search_position (execution_of bytes.now x) (take saved buffer.old) allowance) }
 {
     let n = t.count;

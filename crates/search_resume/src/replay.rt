@@ -34,8 +34,8 @@ pub fn replay(
     rows: &[u64; TABLE],
     affected: &[u64; AFFECTED],
 ) -> bool
-    requires n_bound { (n ≤ 128) × (size ≤ n) × (distinct n [] (take size entries.now) ≡ true) × Kept n rows.now entries.now places.old levels.old words.old replaced.old 0 × Affecting n rows.now affected.now }
-    requires entries_len { (length entries.now ≡ 128) × (length places.old ≡ 128) × (length words.old ≡ 128) }
+    requires kept { (n ≤ 128) × (size ≤ n) × (distinct n [] (take size entries.now) ≡ true) × Kept n rows.now entries.now places.old levels.old words.old replaced.old 0 × Affecting n rows.now affected.now }
+    requires lengths { (length entries.now ≡ 128) × (length places.old ≡ 128) × (length words.old ≡ 128) }
     ensures { Replayed n rows.now size entries.now result places.new levels.new words.new replaced.new }
 {
     let mut j = 0;

@@ -65,8 +65,8 @@ fn make_steps(
     rows: &[u64; TABLE],
     affected: &[u64; AFFECTED],
 ) -> Outcome
-    requires n_bound { (n ≤ 128) × (given.length < n) × Kept n rows.now given.entries places.old levels.old words.old replaced.old given.length × Affecting n rows.now affected.now }
-    requires entries_value { (ListN.length given.entries ≡ 128) × (ListN.length places.old ≡ 128) × (ListN.length words.old ≡ 128) }
+    requires kept { (n ≤ 128) × (given.length < n) × Kept n rows.now given.entries places.old levels.old words.old replaced.old given.length × Affecting n rows.now affected.now }
+    requires lengths { (ListN.length given.entries ≡ 128) × (ListN.length places.old ≡ 128) × (ListN.length words.old ≡ 128) }
     ensures { StepsMade n rows.now (position_of given) allowance result }
 {
     let mut entries = given.entries;

@@ -64,8 +64,8 @@ fn written_value(
     size: usize,
     seen: u64,
 ) -> u64
-    requires count_bound { (count ≤ 8) × (w.0 < 40) × (address < 512) × (address % 8 + size ≤ 8) × (written_from (meant kind) + skipped + size ≤ 16) }
-    requires by_index { (i : ℕ) → i < 64 → bit seen i ≡ relative_bit bytes.now count «data».now (16 * w.0 + (0 + skipped)) address size i }
+    requires bounds { (count ≤ 8) × (w.0 < 40) × (address < 512) × (address % 8 + size ≤ 8) × (written_from (meant kind) + skipped + size ≤ 16) }
+    requires seen_is { (i : ℕ) → i < 64 → bit seen i ≡ relative_bit bytes.now count «data».now (16 * w.0 + (0 + skipped)) address size i }
     ensures { (i : ℕ) → i < 64 → bit result i ≡ relative_bit bytes.now count «data».now (16 * w.0 + (written_from (meant kind) + skipped)) address size i }
 {
     if is_semaphore(kind) {
@@ -114,8 +114,8 @@ pub fn put_words(
     seen: &mut [u64],
     written: &mut [u64],
 )
-    requires count_bound { (x.instructions.count ≤ 40) × (x.lines.count ≤ 8) × ((w : ℕ) → w < x.instructions.count → InLines x.instructions w) }
-    requires bits_len { (length bits.old ≡ 80) × (length seen.old ≡ 80) × (length written.old ≡ 80) }
+    requires bounds { (x.instructions.count ≤ 40) × (x.lines.count ≤ 8) × ((w : ℕ) → w < x.instructions.count → InLines x.instructions w) }
+    requires lengths { (length bits.old ≡ 80) × (length seen.old ≡ 80) × (length written.old ≡ 80) }
     ensures { CoveredBits x bits.new × RelativeValues bytes.now x seen.new written.new }
 {
     let lines = x.lines;

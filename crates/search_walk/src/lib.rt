@@ -129,8 +129,8 @@ pub fn walk(
     rows: &[u64; TABLE],
     affected: &[u64; AFFECTED],
 ) -> WalkAnswer
-    requires n_bound { (n ≤ 128) × (size < n) × Kept n rows.now position.old places.old levels.old words.old replaced.old size × Affecting n rows.now affected.now }
-    requires position_len { (length position.old ≡ 128) × (length places.old ≡ 128) × (length words.old ≡ 128) }
+    requires kept { (n ≤ 128) × (size < n) × Kept n rows.now position.old places.old levels.old words.old replaced.old size × Affecting n rows.now affected.now }
+    requires lengths { (length position.old ≡ 128) × (length places.old ≡ 128) × (length words.old ≡ 128) }
     ensures { Walked n rows.now (take size position.old) result position.new places.new levels.new words.new replaced.new }
 {
     let mut k = size;

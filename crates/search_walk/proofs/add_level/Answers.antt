@@ -17,10 +17,10 @@ put-requires-3 c =
     let a = c.args in
     let e = c.enabled_after-enabled.result in
     let s = c.insert-stand.result in
-    let at = 3 * (a.k + 1) in (
-      omega (arith, c.requires.0),
-      omega (arith, c.requires.0, c.requires.2, ap length (c.put-2.ensures ∙ ap (λ (l : List ℕ). put_at l (at + 1) e.lo e.hi) c.put.ensures), put_length (put_at a.levels.now at s.lo s.hi) (at + 1) e.lo e.hi, put_length a.levels.now at s.lo s.hi),
-    )
+    let at = 3 * (a.k + 1) in record {
+      k_bound = omega (arith, c.requires.0);
+      k_in_bounds = omega (arith, c.requires.0, c.requires.2, ap length (c.put-2.ensures ∙ ap (λ (l : List ℕ). put_at l (at + 1) e.lo e.hi) c.put.ensures), put_length (put_at a.levels.now at s.lo s.hi) (at + 1) e.lo e.hi, put_length a.levels.now at s.lo s.hi);
+    }
 
 pub returns : goal.returns
 returns c =

@@ -8,11 +8,11 @@ use Prim.Native.Nat.{◌-◌}
 use Rattle.search_walk.proofs.walk.Goals as goal
 
 pub overflow_mul-left : goal.overflow_mul-left
-overflow_mul-left c = omega (arith, square c.args.n c.requires.0.0)
+overflow_mul-left c = omega (arith, square c.args.n c.requires.kept.0)
 
 pub loop-left-init : goal.loop-left-init
 loop-left-init c =
-    search_starts (record { few = c.requires.0.0; room = c.requires.0.1; start = refl; levelled = c.requires.0.2.levelled; whole = c.requires.1.0 }) c.requires.0.2 c.requires.1.1 c.requires.1.2 c.at-candidates.ensures
+    search_starts (record { few = c.requires.kept.0; room = c.requires.kept.1; start = refl; levelled = c.requires.kept.2.levelled; whole = c.requires.lengths.0 }) c.requires.kept.2 c.requires.lengths.1 c.requires.lengths.2 c.at-candidates.ensures
 
 pub first-x-requires : goal.first-x-requires
 first-x-requires c =
@@ -34,7 +34,7 @@ returns-then-enter c =
     let g = c.args in
     let t = c.enter.ensures in
     let e = t.made c.if-enter.true in
-    search_found (search_to at.invariant c.first-x.result low.onward (omega (arith, c.if-x-n.true)) low.none) g.affected.now c.requires.0.3 e.4 c.if-x-n.true (low.here (omega (arith, at.invariant.from.few, c.if-x-n.true)))
+    search_found (search_to at.invariant c.first-x.result low.onward (omega (arith, c.if-x-n.true)) low.none) g.affected.now c.requires.kept.3 e.4 c.if-x-n.true (low.here (omega (arith, at.invariant.from.few, c.if-x-n.true)))
     (not-true _ (sym t.told ∙ c.if-enter.true))
     refl e.0 e.1 e.2 e.3
 
@@ -63,7 +63,7 @@ pub remove_entry-removed-requires : goal.remove_entry-removed-requires
 remove_entry-removed-requires c =
     let at = c.loop-left in
     let below = last_below at.invariant (at.k - 1) (get_or at.position (at.k - 1) 0) (omega (arith, c.if-k-eq0.false)) refl at.invariant.from.whole in
-    (omega (arith, at.invariant.within, at.invariant.from.room, at.invariant.from.few, at.invariant.from.whole), omega (arith, at.invariant.within, at.invariant.from.room, at.invariant.from.few), omega (arith, at.invariant.within, at.invariant.from.room, at.invariant.from.few, c.remove_entry-arg-else-x-n-5-1.given.0), omega (arith, below, at.invariant.from.few), at.invariant.long, at.invariant.wide)
+    (omega (arith, at.invariant.within, at.invariant.from.room, at.invariant.from.few, at.invariant.from.whole), omega (arith, at.invariant.within, at.invariant.from.room, at.invariant.from.few), omega (arith, at.invariant.within, at.invariant.from.room, at.invariant.from.few), omega (arith, below, at.invariant.from.few), at.invariant.long, at.invariant.wide)
 
 pub overflow_add-c-else-x-n : goal.overflow_add-c-else-x-n
 overflow_add-c-else-x-n c =
@@ -80,7 +80,7 @@ overflow_add-k-else-x-n c =
 
 pub at-candidates-requires-else-x-n : goal.at-candidates-requires-else-x-n
 at-candidates-requires-else-x-n c =
-    let at = c.loop-left.invariant in (omega (arith, at.within, at.from.room, at.from.few), omega (arith, at.within, at.from.room, at.from.few, c.at-arg-else-x-n-2-1.given))
+    let at = c.loop-left.invariant in record { k_bound = omega (arith, at.within, at.from.room, at.from.few); k_in_bounds = omega (arith, at.within, at.from.room, at.from.few) }
 
 pub loop-left-smaller : goal.loop-left-smaller
 loop-left-smaller c =

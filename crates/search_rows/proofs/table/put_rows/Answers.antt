@@ -10,7 +10,10 @@ use Rattle.search_rows.proofs.table.put_rows.Goals as goal
 
 pub put_words-requires : goal.put_words-requires
 put_words-requires c =
-    ((few_instructions c.args.bytes.now c.args.x c.requires.1, few_lines c.args.bytes.now c.args.x c.requires.1, in_lines c.args.bytes.now c.args.x c.requires.1), (refl, refl, refl))
+    record {
+      bounds = (few_instructions c.args.bytes.now c.args.x c.requires.1, few_lines c.args.bytes.now c.args.x c.requires.1, in_lines c.args.bytes.now c.args.x c.requires.1);
+      lengths = (refl, refl, refl);
+    }
 
 pub loop-o-init : goal.loop-o-init
 loop-o-init c = filled_none c.requires.2

@@ -18,10 +18,10 @@ written_value-written-requires c =
     let inside = c.span_in-span.ensures in
     let seen = c.relative_from-seen.ensures in
     let g = c.args in
-    let skipped = 8 * g.h + c.span_in-span.result.first - g.address % 8 in (
-      (c.requires.0, c.requires.1, omega (arith, inside.low, c.requires.2, c.requires.5), omega (arith, inside.low, inside.onward, inside.within), inside.data_within (written_from (meant g.kind)) (written_few (meant g.kind)) c.requires.4),
-      λ i l. seen i l ∙ ap (λ (at : ℕ). relative_bit g.bytes.now g.count g.«data».now at (g.address + skipped) c.span_in-span.result.count i) (let z : 16 * g.w.0 + skipped ≡ 16 * g.w.0 + (0 + skipped) = omega arith in z),
-    )
+    let skipped = 8 * g.h + c.span_in-span.result.first - g.address % 8 in record {
+      bounds = (c.requires.0, c.requires.1, omega (arith, inside.low, c.requires.2, c.requires.5), omega (arith, inside.low, inside.onward, inside.within), inside.data_within (written_from (meant g.kind)) (written_few (meant g.kind)) c.requires.4);
+      seen_is = λ i l. seen i l ∙ ap (λ (at : ℕ). relative_bit g.bytes.now g.count g.«data».now at (g.address + skipped) c.span_in-span.result.count i) (let z : 16 * g.w.0 + skipped ≡ 16 * g.w.0 + (0 + skipped) = omega arith in z);
+    }
 
 pub returns : goal.returns
 returns c =

@@ -11,15 +11,15 @@ use Rattle.search_rows.proofs.LineLaws.{covers_by, data_by}
 use Rattle.search_rows.proofs.words.put_words.Goals as goal
 
 pub loop-j-init : goal.loop-j-init
-loop-j-init c = let l = c.requires.1 in (refl, omega arith, entered_none l.0, entered_none l.1, entered_none l.2)
+loop-j-init c = let l = c.requires.lengths in (refl, omega arith, entered_none l.0, entered_none l.1, entered_none l.2)
 
 pub line_words-words-requires : goal.line_words-words-requires
 line_words-words-requires c =
     let j = c.loop-j.j in
     let few : j / 2 < c.args.x.instructions.count = omega (arith, c.loop-j-test.true) in
-    let inside = c.requires.0.2 (j / 2) few in (
-      c.requires.0.1,
-      omega (arith, few, c.requires.0.0),
+    let inside = c.requires.bounds.2 (j / 2) few in (
+      c.requires.bounds.1,
+      omega (arith, few, c.requires.bounds.0),
       c.wide-address.ensures.1,
       omega (arith, inside.two_lines, c.wide-address.ensures.0, c.wide-size.ensures.0),
       omega (arith, inside.few, c.wide-size.ensures.0, ap written_from c.kind_of-kind.ensures),
@@ -27,7 +27,7 @@ line_words-words-requires c =
     )
 
 pub overflow_step-j : goal.overflow_step-j
-overflow_step-j c = omega (arith, c.loop-j-test.true, c.requires.0.0)
+overflow_step-j c = omega (arith, c.loop-j-test.true, c.requires.bounds.0)
 
 pub loop-j-smaller : goal.loop-j-smaller
 loop-j-smaller c = omega (arith, c.loop-j-test.true)
@@ -41,7 +41,7 @@ loop-j-preserved c =
     let size = c.wide-size.ensures.0 in
     let made = c.line_words-words.ensures in
     let here = relative_bit c.args.bytes.now c.args.x.lines.count c.args.x.instructions.bytes in
-    let room : j < 80 = omega (arith, turn, c.requires.0.0) in (
+    let room : j < 80 = omega (arith, turn, c.requires.bounds.0) in (
       refl,
       omega (arith, turn),
       entered_more inv.2 c.line_words-words.result.bits room (λ i l. made.0 i l ∙ ap₂ (λ (a s : ℕ). covered_bit a s (64 * (j % 2) + i)) address size),
