@@ -6,7 +6,6 @@ use mathlib.Core.List.{List, ◌∷◌, ◌++◌, append_assoc}
 use lib.ListN.{length, take, set, length-set, length-append}
 use Rattle.base.specs.Lists.{for}
 use Rattle.base.specs.Orders.{OrderOf, sorted}
-use Rattle.model.specs.Execution as model
 use Rattle.model.specs.Calls.{says, read_all}
 use Rattle.model.specs.Renumbering.{pairs_from, head_taken, record_from, renumbered, smallest_form}
 use Rattle.record_decoded.specs.declared.types.Execution.{Execution}

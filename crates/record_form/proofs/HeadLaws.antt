@@ -9,7 +9,6 @@ use lib.ListN.{length, get_or, take, drop, set, replicate, length-set, length-dr
 use lib.Seq.{paste}
 use Rattle.base.specs.Lists.{for, count, below}
 use Rattle.base.proofs.Lists.{for_append, for_one, below_more}
-use Rattle.model.specs.Execution as model
 use Rattle.model.specs.Execution.{no_line}
 use Rattle.model.specs.Calls.{says, read_all}
 use Rattle.model.specs.Sections.{line_bytes}

@@ -10,7 +10,6 @@ use Rattle.base.specs.Lists.{for}
 use Rattle.base.specs.Orders.{OrderOf}
 use Rattle.base.proofs.Lists.{for_append, for_one, for_map, for_same, distinct_in}
 use Rattle.base.proofs.Permutations.{order_low}
-use Rattle.model.specs.Execution as model
 use Rattle.model.specs.Calls.{says, read_all}
 use Rattle.model.specs.Renumbering.{bytes_of_program, own_instructions, processor_at}
 use Rattle.record_decoded.specs.declared.types.Execution.{Execution}
@@ -21,7 +20,7 @@ use Rattle.record_form.specs.declared.processors.Starts.{Starts}
 use Rattle.record_form.specs.declared.sort.Order.{Order}
 use Rattle.record_form.specs.Ordered.{in_order}
 use Rattle.record_form.specs.Places.{StartsMean}
-use Rattle.record_form.proofs.LocatedLaws.{place_next, place_within, program_part}
+use Rattle.record_form.proofs.LocatedLaws.{few, place_next, place_within, program_part}
 
 -- Parts of lists
 
@@ -50,6 +49,11 @@ programs_none h = record { turns = omega arith; put = puts_none h }
 -- a processor of the order
 pub in_order_lem : (n : ℕ) (order : List ℕ) → OrderOf n (take n order) → {p : ℕ} (k : ℕ) → k < n → p ≡ get_or order k 0 → p < n
 in_order_lem n order o k h e = omega (arith, e, get_or-take n order k 0 h, order_low n (take n order) o k h)
+
+-- the processor whose turn it is
+pub turn_low : (bytes : List ℕ) (x : Execution) (order : Order) → read_all bytes ≡ says (execution_of bytes x) → OrderOf x.processors (take x.processors order.processors)
+    → {p : ℕ} (k : ℕ) → k < x.processors → p ≡ get_or order.processors k 0 → (p < x.processors) × (x.processors ≤ 8)
+turn_low bytes x order told o k h e = (in_order_lem x.processors order.processors o k h e, (few bytes x told).processors_few)
 
 module _ (bytes : List ℕ) (x : Execution) (starts : Starts) (order : Order) (before : List ℕ) (at : ℕ)
     (pre :

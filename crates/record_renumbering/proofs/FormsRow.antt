@@ -1,5 +1,4 @@
 -- The row meets the hypotheses of all claims, by computation; so they say what they say of it.
-use Prim.Native.Nat.{◌+◌}
 use mathlib.Core.Path.{◌≡◌, refl, sym, ap, ◌∙◌, subst}
 use mathlib.Core.List.{[], ◌∷◌, ◌++◌}
 use lib.ListN.{take, drop}

@@ -11,7 +11,7 @@ use borrow.Author.Tests.{eq-eqb, ne_eqb, lt-ltb}
 use Rattle.base.specs.Lists.{all, for, count, below, member}
 use Rattle.base.proofs.Bools.{and_both}
 use Rattle.base.proofs.Lists.{map_same, of_count}
-use Rattle.model.specs.Execution.{Kind, ld, ld_acq, st, st_rel, mf, sem_acq, sem_rel, Instruction}
+use Rattle.model.specs.Execution.{Kind, ld, ld_acq, st, st_rel, mf, sem_acq, sem_rel, Instruction, roles}
 use Rattle.model.specs.Accepted.{Each, Consecutive}
 use Rattle.model.specs.Questions.{more_length}
 use Rattle.model.specs.SolversCopy.{entries_length, data_place, seen_length, seen_places, zeroed}
@@ -220,7 +220,7 @@ numbered_places lines processors at n before (i ∷ is) e (f, number, h) =
     ap₂ (λ (a b : List ℕ). a ++ b)
     (ap (λ (m : ℕ). count m (seen_length i.kind i.size)) here)
     (ap (λ (l : List Instruction). for is (λ j. count (data_place lines l j) (seen_length j.kind j.size))) (sym apart)
-    ∙ numbered_places lines processors _ (suc n) (before ++ (i ∷ [])) is (omega (arith, length-append before (i ∷ []), e)) h
+    ∙ numbered_places lines processors (at + length (roles processors i.kind)) (suc n) (before ++ (i ∷ [])) is (omega (arith, length-append before (i ∷ []), e)) h
     ∙ ap (λ (m : ℕ). seen_from m is) (let z : 3 + 9 * lines + entries_length (before ++ (i ∷ [])) ≡ 3 + 9 * lines + entries_length before + (11 + more_length i.kind i.size) = omega (arith, entries_length_append before (i ∷ []), one) in z))
   where
     here : data_place lines (before ++ i ∷ is) i ≡ 3 + 9 * lines + entries_length before + i.processor + 3

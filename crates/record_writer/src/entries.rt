@@ -12,7 +12,7 @@ use record_programs::more_length;
 pub const SHORTEST_ENTRY: usize = 1 + ENTRY_LENGTH;
 
 // The bytes of the entry at `at`, by its kind and size.
-fn entry_length_lem(part: &[u8], at: usize) -> usize
+fn entry_length(part: &[u8], at: usize) -> usize
     requires { at + 12 ≤ length part.now }
     ensures { (result ≡ section_entry_length (drop at part.now)) × (12 ≤ result) × (result ≤ 20) }
 {
@@ -36,7 +36,7 @@ pub fn all_whole(part: &[u8]) -> bool
         if part.len() - at < SHORTEST_ENTRY {
             return false;
         }
-        let n = entry_length_lem(part, at);
+        let n = entry_length(part, at);
         if part.len() - at < n {
             return false;
         }
@@ -55,7 +55,7 @@ pub fn all_below(part: &[u8], processors: u8) -> bool
         if processors <= part[at] {
             return false;
         }
-        at = at + entry_length_lem(part, at);
+        at = at + entry_length(part, at);
     }
     true
 }
@@ -76,7 +76,7 @@ pub fn program_length(part: &[u8], p: u8) -> usize
     let mut at = 0;
     while at < part.len() {
         count = count + number_if(part[at] == p, 1);
-        at = at + entry_length_lem(part, at);
+        at = at + entry_length(part, at);
     }
     count
 }
@@ -89,7 +89,7 @@ pub fn put_entries(out: &mut [u8], at: usize, part: &[u8], p: u8) -> usize
     let mut next = at;
     let mut from = 0;
     while from < part.len() {
-        let n = entry_length_lem(part, from);
+        let n = entry_length(part, from);
         let bytes = number_if(part[from] == p, n - 1);
         copy_bytes(out, next, part, from + 1, bytes);
         next = next + bytes;

@@ -17,13 +17,13 @@ module _ {A : Type 0} (key byte : A → ℕ) where
   abbrev pub table : List A → List (ℕ × ℕ)
   table l = map (λ a. (key a, byte a)) l
 
-  pub byte_there : {l : List A} {w : A} → Memᴰ w l → (d : ℕ) → ((u : A) → Memᴰ u l → key u ≡ key w → byte u ≡ byte w) → byte_of (table l) (key w) d ≡ byte w
+  pub byte_there : {w : A} {l : List A} → Memᴰ w l → (d : ℕ) → ((u : A) → Memᴰ u l → key u ≡ key w → byte u ≡ byte w) → byte_of (table l) (key w) d ≡ byte w
   unfolding byte_of
   byte_there {w = w} (Memᴰ.head {x = x} {xs = l} e) d one = rw (eq-eqb (key x) (key w) (ap key (sym e))) (one x (Memᴰ.head refl) (ap key (sym e)))
   byte_there {w = w} (Memᴰ.tail {x = x} {xs = l} m) d one =
       split (eqb (key x) (key w))
       (λ t. rw t (one x (Memᴰ.head refl) (eqb-true (key x) (key w) t)))
-      (λ f. rw f (byte_there m d (λ u mu. one u (Memᴰ.tail mu))))
+      (λ f. rw f (byte_there {w = w} m d (λ u mu. one u (Memᴰ.tail mu))))
 
   pub byte_none : (l : List A) (o d : ℕ) → ((a : A) → Memᴰ a l → key a ≡ o → ⊥) → byte_of (table l) o d ≡ d
   unfolding byte_of

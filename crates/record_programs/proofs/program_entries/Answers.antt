@@ -7,7 +7,7 @@ use Rattle.record_decoded.proofs.Items.{Going, going_on, going_fails, going_ends
 use Rattle.record_programs.proofs.program_entries.Goals as goal
 
 pub loop-i-init : goal.loop-i-init
-loop-i-init c = (going_starts (omega arith) refl, c.requires.1, omega arith)
+loop-i-init c = (going_starts (omega arith) refl, c.requires.counted, omega arith)
 
 pub instruction_question-asked-requires : goal.instruction_question-asked-requires
 instruction_question-asked-requires c = (c.loop-i.invariant.0.room, omega arith)

@@ -11,7 +11,7 @@ returns-then-part-lt1 c =
     let a = c.args in
     record {
       walked = refused_walk (program_short a.processors (attributes_of a.lines) a.p (instructions_of a.is) a.part.now c.if-part-lt1.true);
-      counts = c.requires.1;
+      counts = c.requires.counted;
     }
 
 pub returns-then-room-wide : goal.returns-then-room-wide
@@ -20,7 +20,7 @@ returns-then-room-wide c =
     record {
       walked = refused_walk (program_many a.processors (attributes_of a.lines) a.p (instructions_of a.is) a.part.now (omega arith)
           (omega (arith, instructions_length a.is, c.wide.ensures.0)));
-      counts = c.requires.1;
+      counts = c.requires.counted;
     }
 
 pub returns : goal.returns
@@ -29,6 +29,6 @@ returns c =
     let w = c.program_entries.ensures in
     record {
       walked = same_walk (program_counted a.processors (attributes_of a.lines) a.p (instructions_of a.is) a.part.now (omega arith)
-          (omega (arith, instructions_length a.is, c.wide.ensures.0, c.requires.1.few))) w.walked;
+          (omega (arith, instructions_length a.is, c.wide.ensures.0, c.requires.counted.few))) w.walked;
       counts = w.counts;
     }

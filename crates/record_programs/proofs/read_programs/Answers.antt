@@ -13,7 +13,7 @@ loop-p-init c =
     (programs_start none.2, counted_none none.0 none.1 none.2)
 
 pub read_program-read-requires : goal.read_program-read-requires
-read_program-read-requires c = ((omega arith, omega arith), c.loop-p.invariant.1)
+read_program-read-requires c = record { count_bound = (omega arith, omega arith); counted = c.loop-p.invariant.1 }
 
 pub returns-in-Refused : goal.returns-in-Refused
 returns-in-Refused c =

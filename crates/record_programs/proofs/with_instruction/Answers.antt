@@ -40,5 +40,5 @@ returns c =
     ap (λ (m : ℕ). a.x.operations + m) (c.operation_count.ensures ∙ ap (λ (k : Kind). length (roles a.processors k)) c.kind_of-kind.ensures) in
     let kind = c.kind_of-kind.ensures in
     let more = c.more_length-data.ensures.0 in
-    instruction_more a.processors a.x a.part.now a.at a.p (a.x.operations + c.operation_count.result) c.copy_bytes.new.0 sized
+    instruction_more a.processors a.x a.part.now a.at a.p (a.x.operations + c.operation_count.result) c.copy_bytes.new.to sized
     (omega arith) c.requires.1 c.requires.4 (c.copy_bytes.ensures ∙ ap (λ (m : ℕ). paste a.x.bytes (16 * a.x.count) (drop (a.at + 3) a.part.now) (8 + m)) (more ∙ ap (λ (k : Kind). more_length k (get_or a.part.now (a.at + 2) 0)) kind)) (omega arith) (omega arith) n

@@ -1,7 +1,6 @@
 -- A touched line is copied from where it stands in the record, any other from zeros.
 use Prim.Native.Nat.{◌+◌}
 use native.Mathlib.Omega.{arith}
-use mathlib.Core.Logic.{⊎_elim}
 use mathlib.Core.Path.{refl, sym, ◌∙◌}
 use Rattle.model.specs.Renumbering.{line_taken}
 use Rattle.record_decoded.specs.Decoded.{execution_of}
@@ -9,17 +8,7 @@ use Rattle.record_writer.specs.Puts.{Puts}
 use Rattle.record_form.proofs.HeadLaws.{line_within, puts_touched, puts_untouched}
 use Rattle.record_form.proofs.LocatedLaws.{few}
 use Rattle.record_form.proofs.form.put_line.Goals as goal
-
-line-put : (c : tie.Joined1) → let a = c.before.before.before.before.args in
-    Puts a.out.now a.at (line_taken (execution_of a.bytes.now a.x) a.line) c.if1.out (a.at + 9)
-line-put c =
-    let s = c.before.before.before.before in
-    let a = s.args in
-    let told = c.before.is-touched.ensures in
-    ⊎_elim
-    (λ w. puts_touched a.bytes.now a.x s.requires.0 a.line s.requires.1 s.requires.2 (sym w.0.taken ∙ told) (w.5 ∙ w.2.ensures))
-    (λ w. puts_untouched a.bytes.now a.x s.requires.0 a.line s.requires.2 (sym w.0.left ∙ told) (w.6 ∙ w.3.ensures))
-    c.if1.branch
+use Rattle.record_form.proofs.form.put_line.Goals.{then-is_touched, else-is_touched}
 
 pub is_touched-requires : goal.is_touched-requires
 is_touched-requires c = let a = c.args in (few a.bytes.now a.x c.requires.0).instructions_few
@@ -37,7 +26,23 @@ pub slice_bounds-copy_bytes-end : goal.slice_bounds-copy_bytes-end
 slice_bounds-copy_bytes-end c = refl
 
 pub shape_of-out : goal.shape_of-out
-shape_of-out c = (line-put c).long
+shape_of-out c =
+    let a = c.args in
+    let told = c.is_touched.ensures in
+    let put : Puts a.out.now a.at (line_taken (execution_of a.bytes.now a.x) a.line) c.if-is_touched.out (a.at + 9) =
+    elim c.if-is_touched.branch [
+      | then-is_touched w ↦ puts_touched a.bytes.now a.x c.requires.0 a.line c.requires.1 c.requires.2 (sym w.if-is_touched.true ∙ told) (w.out-is ∙ w.copy_bytes.ensures)
+      | else-is_touched w ↦ puts_untouched a.bytes.now a.x c.requires.0 a.line c.requires.2 (sym w.if-is_touched.false ∙ told) (w.out-is ∙ w.copy_bytes-else-is_touched.ensures)
+    ] in
+    put.long
 
 pub returns : goal.returns
-returns c = (line-put c, refl)
+returns c =
+    let a = c.args in
+    let told = c.is_touched.ensures in
+    let put : Puts a.out.now a.at (line_taken (execution_of a.bytes.now a.x) a.line) c.if-is_touched.out (a.at + 9) =
+    elim c.if-is_touched.branch [
+      | then-is_touched w ↦ puts_touched a.bytes.now a.x c.requires.0 a.line c.requires.1 c.requires.2 (sym w.if-is_touched.true ∙ told) (w.out-is ∙ w.copy_bytes.ensures)
+      | else-is_touched w ↦ puts_untouched a.bytes.now a.x c.requires.0 a.line c.requires.2 (sym w.if-is_touched.false ∙ told) (w.out-is ∙ w.copy_bytes-else-is_touched.ensures)
+    ] in
+    (put, refl)

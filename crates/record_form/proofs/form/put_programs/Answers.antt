@@ -1,19 +1,8 @@
 -- Each turn copies one program from where it stands in the record.
-use Prim.Native.Nat.{◌<◌}
 use native.Mathlib.Omega.{arith}
-use Rattle.record_form.proofs.PieceLaws.{programs_none, in_order_lem, place_rises, piece_there, program_room, programs_more, programs_put}
+use Rattle.record_form.proofs.PieceLaws.{programs_none, turn_low, place_rises, piece_there, program_room, programs_more, programs_put}
 use Rattle.record_form.proofs.LocatedLaws.{few}
 use Rattle.record_form.proofs.form.put_programs.Goals as goal
-
--- the processor whose turn it is
-low : (c : tie.After-wide invariant-loop decreases-loop) → c.wide.result < 8
-low c =
-    let s = c.before.before.before.before.before.before.before in
-    omega (
-      arith,
-      in_order_lem s.args.x.processors s.args.t6.processors s.requires.2 c.before.before.before.loop.k c.before.before.loop-test.true c.wide.ensures.0,
-      (few s.args.bytes.now s.args.x s.requires.0).processors_few,
-    )
 
 pub loop-k-init : goal.loop-k-init
 loop-k-init c = programs_none (omega (arith, c.requires.3))
@@ -22,22 +11,22 @@ pub bounds-order-k : goal.bounds-order-k
 bounds-order-k c = omega (arith, (few c.args.bytes.now c.args.x c.requires.0).processors_few)
 
 pub offset_bounds-places-p : goal.offset_bounds-places-p
-offset_bounds-places-p c = omega (arith, low c)
+offset_bounds-places-p c = omega (arith, turn_low c.args.bytes.now c.args.x c.args.order c.requires.0 c.requires.2 c.loop-k.k c.loop-k-test.true c.wide-p.ensures.0)
 
 pub bounds-places-p : goal.bounds-places-p
-bounds-places-p c = omega (arith, low c)
+bounds-places-p c = omega (arith, turn_low c.args.bytes.now c.args.x c.args.order c.requires.0 c.requires.2 c.loop-k.k c.loop-k-test.true c.wide-p.ensures.0)
 
 pub overflow_add-n : goal.overflow_add-n
-overflow_add-n c = omega (arith, low c)
+overflow_add-n c = omega (arith, turn_low c.args.bytes.now c.args.x c.args.order c.requires.0 c.requires.2 c.loop-k.k c.loop-k-test.true c.wide-p.ensures.0)
 
 pub offset_bounds-places-p-in-loop-k : goal.offset_bounds-places-p-in-loop-k
-offset_bounds-places-p-in-loop-k c = omega (arith, low c)
+offset_bounds-places-p-in-loop-k c = omega (arith, turn_low c.args.bytes.now c.args.x c.args.order c.requires.0 c.requires.2 c.loop-k.k c.loop-k-test.true c.wide-p.ensures.0)
 
 pub bounds-places-p-in-loop-k : goal.bounds-places-p-in-loop-k
-bounds-places-p-in-loop-k c = omega (arith, low c)
+bounds-places-p-in-loop-k c = omega (arith, turn_low c.args.bytes.now c.args.x c.args.order c.requires.0 c.requires.2 c.loop-k.k c.loop-k-test.true c.wide-p.ensures.0)
 
 pub overflow_sub-n : goal.overflow_sub-n
-overflow_sub-n c = let a = c.args in place_rises a.bytes.now a.x a.starts a.t6 a.out.now a.at c.requires c.loop-k.invariant c.loop-k-test.true c.wide-p.ensures.0
+overflow_sub-n c = let a = c.args in place_rises a.bytes.now a.x a.starts a.order a.out.now a.at c.requires c.loop-k.invariant c.loop-k-test.true c.wide-p.ensures.0
 
 pub copy_bytes-requires : goal.copy_bytes-requires
 copy_bytes-requires c =
@@ -45,7 +34,7 @@ copy_bytes-requires c =
     let inv = c.loop-k.invariant in
     let more = c.loop-k-test.true in
     let this = c.wide-p.ensures.0 in
-    (program_room a.bytes.now a.x a.starts a.t6 a.out.now a.at c.requires inv more this, piece_there a.bytes.now a.x a.starts a.t6 a.out.now a.at c.requires inv more this)
+    (program_room a.bytes.now a.x a.starts a.order a.out.now a.at c.requires inv more this, piece_there a.bytes.now a.x a.starts a.order a.out.now a.at c.requires inv more this)
 
 pub overflow_add-next : goal.overflow_add-next
 overflow_add-next c =
@@ -53,16 +42,16 @@ overflow_add-next c =
     let inv = c.loop-k.invariant in
     omega (
       arith,
-      program_room a.bytes.now a.x a.starts a.t6 a.out.now a.at c.requires inv c.loop-k-test.true c.wide-p.ensures.0,
+      program_room a.bytes.now a.x a.starts a.order a.out.now a.at c.requires inv c.loop-k-test.true c.wide-p.ensures.0,
       inv.put.long,
-      c.before.before.before.before.before.before.before.before.before.before.before.well-formed.0,
+      c.well_formed.0,
     )
 
 pub loop-k-preserved : goal.loop-k-preserved
-loop-k-preserved c = let a = c.args in programs_more a.bytes.now a.x a.starts a.t6 a.out.now a.at c.requires c.loop-k.invariant c.loop-k-test.true c.wide-p.ensures.0 c.copy_bytes.ensures
+loop-k-preserved c = let a = c.args in programs_more a.bytes.now a.x a.starts a.order a.out.now a.at c.requires c.loop-k.invariant c.loop-k-test.true c.wide-p.ensures.0 c.copy_bytes.ensures
 
 pub shape_of-out : goal.shape_of-out
 shape_of-out c = c.loop-k.invariant.put.long
 
 pub returns : goal.returns
-returns c = let a = c.args in programs_put a.bytes.now a.x a.starts a.t6 a.out.now a.at c.requires c.loop-k.invariant c.loop-k-test.false
+returns c = let a = c.args in programs_put a.bytes.now a.x a.starts a.order a.out.now a.at c.requires c.loop-k.invariant c.loop-k-test.false

@@ -1,8 +1,8 @@
 -- Each turn counts one instruction, if its processor is a lower one.
 use native.Mathlib.Omega.{arith}
-use mathlib.Core.Logic.{⊎_elim}
 use Rattle.record_form.proofs.ProcessorLaws.{lower_none, counted_few, counts_lower, leaves_other, all_counted}
 use Rattle.record_form.proofs.processors.count_lower.Goals as goal
+use Rattle.record_form.proofs.processors.count_lower.Goals.{then-wide-p, else-wide-p}
 
 pub loop-i-init : goal.loop-i-init
 loop-i-init c = lower_none
@@ -20,10 +20,10 @@ pub loop-i-preserved : goal.loop-i-preserved
 loop-i-preserved c =
     let l = c.loop-i.invariant in
     let owner = c.wide.ensures.0 in
-    ⊎_elim
-    (λ w. counts_lower l (omega arith) (omega (arith, w.0.taken, owner)) w.2.ensures w.4.ensures.0 w.5 w.6)
-    (λ w. leaves_other l (omega arith) (omega (arith, w.0.left, owner)) w.1 w.2)
-    c.if-wide-p.branch
+    elim c.if-wide-p.branch [
+      | then-wide-p w ↦ counts_lower l (omega arith) (omega (arith, w.if-wide-p.true, owner)) w.kind_of.ensures w.more_length-more.ensures.0 w.count-is w.bytes-is
+      | else-wide-p w ↦ leaves_other l (omega arith) (omega (arith, w.if-wide-p.false, owner)) w.count-is w.bytes-is
+    ]
 
 pub returns : goal.returns
 returns c = all_counted c.loop-i.invariant (omega arith)

@@ -2,12 +2,12 @@
 use Prim.Native.Nat.{ℕ, ◌-◌}
 use native.Mathlib.Omega.{arith}
 use mathlib.Core.Path.{ap, ◌∙◌, refl}
-use mathlib.Core.Logic.{⊎_elim}
 use lib.ListN.{get_or}
 use Rattle.model.specs.Questions.{no_instruction}
 use Rattle.record_decoded.specs.Decoded.{instructions_of}
 use Rattle.record_form.proofs.OwnLaws.{own_none, own_room, puts_own, leaves_pair, own_ends}
 use Rattle.record_form.proofs.processors.own_pairs.Goals as goal
+use Rattle.record_form.proofs.processors.own_pairs.Goals.{then-owner-p, else-owner-p}
 
 pub loop-j-init : goal.loop-j-init
 loop-j-init c = own_none refl
@@ -30,10 +30,10 @@ loop-j-preserved c =
     let a = c.args in
     let few = c.requires in
     let owner = c.owner.ensures ∙ ap (λ (k : ℕ). (get_or (instructions_of a.is) k no_instruction).processor) c.wide.ensures.0 in
-    ⊎_elim
-    (λ w. puts_own l (omega (arith, few)) (omega arith) owner w.0.taken (w.1.ensures ∙ ap (λ (n : ℕ). get_or a.t2.earlier c.loop-j.j 0 - n) few.2) (w.2.ensures ∙ ap (λ (n : ℕ). get_or a.t2.later c.loop-j.j 0 - n) few.2) w.3 w.4)
-    (λ w. leaves_pair l (omega (arith, few)) (omega arith) owner w.0.left w.1 w.2)
-    c.if-owner-p.branch
+    elim c.if-owner-p.branch [
+      | then-owner-p w ↦ puts_own l (omega (arith, few)) (omega arith) owner w.if-owner-p.true (w.lowered.ensures ∙ ap (λ (n : ℕ). get_or a.pairs.earlier c.loop-j.j 0 - n) few.2) (w.lowered-then-owner-p.ensures ∙ ap (λ (n : ℕ). get_or a.pairs.later c.loop-j.j 0 - n) few.2) w.bytes-is w.at-is
+      | else-owner-p w ↦ leaves_pair l (omega (arith, few)) (omega arith) owner w.if-owner-p.false w.bytes-is w.at-is
+    ]
 
 pub bounds-bytes-at-2 : goal.bounds-bytes-at-2
 bounds-bytes-at-2 c = omega (arith, c.loop-j.invariant.few, c.loop-j.invariant.turns, c.requires)

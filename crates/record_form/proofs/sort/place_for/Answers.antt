@@ -27,7 +27,7 @@ key_less-requires c =
 pub returns-then-key_less : goal.returns-then-key_less
 returns-then-key_less c =
     let a = c.args in
-    let long : length a.t4.processors ≡ 8 = search rules in
+    let long : length a.order.processors ≡ 8 = search rules in
     let f = (few a.bytes.now a.x c.requires.0).processors_few in
     let tested = c.key_less.ensures ∙ ap (λ (k : ℕ). key_less (instructions_of a.x.instructions) (pairs_of a.x.pairs) a.n k) c.wide.ensures.0 in
     (place_found c.loop-j.invariant (omega (arith, c.requires.2)) (omega arith) tested c.if-key_less.true, omega arith)
@@ -41,6 +41,6 @@ loop-j-preserved c =
 pub returns : goal.returns
 returns c =
     let a = c.args in
-    let long : length a.t4.processors ≡ 8 = search rules in
+    let long : length a.order.processors ≡ 8 = search rules in
     let f = (few a.bytes.now a.x c.requires.0).processors_few in
     (place_last c.loop-j.invariant (omega (arith, c.requires.2)) (omega arith), omega arith)

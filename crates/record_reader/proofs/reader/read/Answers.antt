@@ -1,5 +1,5 @@
 -- The count of processors and its question, the lines, then what follows them.
-use Prim.Native.Nat.{ℕ, ◌+◌, ◌≤◌}
+use Prim.Native.Nat.{ℕ, ◌+◌}
 use native.Mathlib.Omega.{arith}
 use mathlib.Core.Path.{sym, ap, ap₂, ◌∙◌}
 use mathlib.Core.List.{List}
@@ -12,12 +12,6 @@ use Rattle.record_reader.specs.Readings.{after_lines}
 use Rattle.record_reader.proofs.ReadingLaws.{record_short, record_few, record_many, record_fails, record_read}
 use Rattle.record_reader.proofs.reader.read.Goals as goal
 
--- the lines end within the record
-within : (c : tie.After-known-told2) → 1 + c.before.step2.given.0.0 ≤ length c.before.before.before.before.before.before.before.before.before.before.before.args.bytes.now
-within c =
-    let bytes = c.before.before.before.before.before.before.before.before.before.before.before.args.bytes.now in
-    omega (arith, c.before.before.before.before.read-lines.ensures.0.within _ c.before.step2.given.1, ap length (rest 1 bytes), length-drop 1 bytes)
-
 pub returns-then-bytes-lt1 : goal.returns-then-bytes-lt1
 returns-then-bytes-lt1 c = record_short c.args.bytes.now c.if-bytes-lt1.true ∙ c.refused.ensures _
 
@@ -27,14 +21,21 @@ returns-then-p-lt1 c = record_few c.args.bytes.now (omega arith) c.if-p-lt1.true
 pub returns-then-p-gt-MOST_PROCESSORS : goal.returns-then-p-gt-MOST_PROCESSORS
 returns-then-p-gt-MOST_PROCESSORS c = record_many c.args.bytes.now (omega arith) c.if-p-gt-MOST_PROCESSORS.true ∙ c.refused-then-p-gt-MOST_PROCESSORS.ensures _
 
+-- the lines end within the record
 pub overflow_add-at : goal.overflow_add-at
-overflow_add-at c = omega (arith, within c)
+overflow_add-at c =
+    let bytes = c.args.bytes.now in
+    omega (arith, c.read_lines-lines_read.ensures.0.within _ c.in-Next.is, ap length (rest 1 bytes), length-drop 1 bytes)
 
 pub slice_bounds-read_rest-count : goal.slice_bounds-read_rest-count
-slice_bounds-read_rest-count c = within c
+slice_bounds-read_rest-count c =
+    let bytes = c.args.bytes.now in
+    omega (arith, c.read_lines-lines_read.ensures.0.within _ c.in-Next.is, ap length (rest 1 bytes), length-drop 1 bytes)
 
 pub slice_bounds-read_rest-start : goal.slice_bounds-read_rest-start
-slice_bounds-read_rest-start c = within c
+slice_bounds-read_rest-start c =
+    let bytes = c.args.bytes.now in
+    omega (arith, c.read_lines-lines_read.ensures.0.within _ c.in-Next.is, ap length (rest 1 bytes), length-drop 1 bytes)
 
 pub returns-in-Refused : goal.returns-in-Refused
 returns-in-Refused c =

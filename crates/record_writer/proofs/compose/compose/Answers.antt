@@ -25,21 +25,15 @@ overflow_add-lines c =
 
 pub put_programs-requires : goal.put_programs-requires
 put_programs-requires c =
-    let few = c in
-    let start = few.before.before.before.before.before.before in
-    let a = start.args in
-    programs_asked a.processors a.lines.now a.instructions.now a.pairs.now a.out.now start.requires few.before.if1.false few.if2.false c.copy_bytes.ensures
+    let a = c.args in
+    programs_asked a.processors a.lines.now a.instructions.now a.pairs.now a.out.now c.requires c.if-processors-gt-MOST_PROCESSORS.false c.if-n.false c.copy_bytes.ensures
 
 pub shape_of-out : goal.shape_of-out
 shape_of-out c =
-    let few = c in
-    let start = few.before.before.before.before.before.before in
-    let a = start.args in
-    record_long a.processors a.lines.now a.instructions.now a.pairs.now a.out.now start.requires few.before.if1.false few.if2.false c.copy_bytes.ensures c.put_programs.ensures
+    let a = c.args in
+    record_long a.processors a.lines.now a.instructions.now a.pairs.now a.out.now c.requires c.if-processors-gt-MOST_PROCESSORS.false c.if-n.false c.copy_bytes.ensures c.put_programs.ensures
 
 pub returns : goal.returns
 returns c =
-    let few = c in
-    let start = few.before.before.before.before.before.before in
-    let a = start.args in
-    record_ends a.processors a.lines.now a.instructions.now a.pairs.now a.out.now start.requires few.before.if1.false few.if2.false c.copy_bytes.ensures c.put_programs.ensures
+    let a = c.args in
+    record_ends a.processors a.lines.now a.instructions.now a.pairs.now a.out.now c.requires c.if-processors-gt-MOST_PROCESSORS.false c.if-n.false c.copy_bytes.ensures c.put_programs.ensures

@@ -25,10 +25,7 @@ shape_of-out-then-count-n c = length-set c.loop-p.out c.loop-p.next 41 ∙ c.loo
 
 pub returns-then-count-n : goal.returns-then-count-n
 returns-then-count-n c =
-    let fits = c in
-    let test = fits.before.before in
-    let pre = test.before.before.before.before.before.requires in
-    programs_fail test.before.loop.invariant test.loop-test.true fits.before.program-length.ensures pre.2 fits.if1.true
+    programs_fail c.loop-p.invariant c.loop-p-test.true c.program_length-n.ensures c.requires.2 c.if-count-n.true
 
 pub overflow_cast-out-in-loop-p : goal.overflow_cast-out-in-loop-p
 overflow_cast-out-in-loop-p c = omega (arith, c.if-count-n.false)
@@ -41,18 +38,14 @@ overflow_add-next c = omega (arith, c.loop-p.invariant)
 
 pub put_entries-next-requires : goal.put_entries-next-requires
 put_entries-next-requires c =
-    let test = c in
-    let pre = test.before.before.before.before.before.requires in
-    (pre.3, programs_room test.before.loop.invariant test.loop-test.true c.program_length-n.ensures pre.2 c.if-count-n.false)
+    (c.requires.3, programs_room c.loop-p.invariant c.loop-p-test.true c.program_length-n.ensures c.requires.2 c.if-count-n.false)
 
 pub overflow_add-count : goal.overflow_add-count
 overflow_add-count c = omega (arith, c.if-count-n.false, c.loop-p.invariant.few)
 
 pub loop-p-preserved : goal.loop-p-preserved
 loop-p-preserved c =
-    let test = c in
-    let pre = test.before.before.before.before.before.requires in
-    programs_turn test.before.loop.invariant test.loop-test.true c.program_length-n.ensures pre.2 c.if-count-n.false c.put_entries-next.ensures
+    programs_turn c.loop-p.invariant c.loop-p-test.true c.program_length-n.ensures c.requires.2 c.if-count-n.false c.put_entries-next.ensures
 
 pub put_pairs-requires : goal.put_pairs-requires
 put_pairs-requires c = (pairs_there c.loop-p.invariant c.requires.2, c.requires.4)
