@@ -1,4 +1,5 @@
 -- Each way out: questions 18 to 20, and what follows.
+use mathlib.Core.Bool.{not}
 use native.Mathlib.Omega.{arith}
 use mathlib.Core.Path.{sym, ap, ◌∙◌}
 use lib.Seq.{length-take-le}
@@ -14,7 +15,10 @@ operations_of-t-requires c =
     let bytes = c.args.bytes.now in
     let x = c.args.x in
     let a = c.requires in
-    ((few_processors bytes x a, few_instructions bytes x a, few_operations bytes x a), consecutive_here bytes x a)
+    record {
+      bounds = (few_processors bytes x a, few_instructions bytes x a, few_operations bytes x a);
+      consecutive = consecutive_here bytes x a;
+    }
 
 pub returns-then-buffer-n : goal.returns-then-buffer-n
 returns-then-buffer-n c =
@@ -54,10 +58,10 @@ all_marks-marks-requires c =
 pub search_on-requires : goal.search_on-requires
 search_on-requires c =
     let a = c.args in
-    let t = c.operations_of-t.ensures in (
-      (c.requires, λ others. compiled others a.x t (c.all_marks-marks.ensures others)),
-      (c.if-n-saved.false, c.if-buffer-n.false, sym c.place_all-placing.ensures.told ∙ c.if-not-placing.false),
-    )
+    let t = c.operations_of-t.ensures in record {
+      accepted = (c.requires, λ others. compiled others a.x t (c.all_marks-marks.ensures others));
+      saved = (c.if-n-saved.false, c.if-buffer-n.false, sym c.place_all-placing.ensures.told ∙ c.if-not-placing.false);
+    }
 
 pub returns : goal.returns
 returns c =

@@ -14,29 +14,29 @@ use Rattle.search_call.proofs.CallLaws.{consistent_closed, empty_keeps, outcome_
 use Rattle.search_call.proofs.call.search_on.Goals as goal
 
 pub put_rows-requires : goal.put_rows-requires
-put_rows-requires c = let pre = c.requires in (pre.0.1, pre.0.0, refl)
+put_rows-requires c = let pre = c.requires in (pre.accepted.1, pre.accepted.0, refl)
 
 pub saved_position-given-requires : goal.saved_position-given-requires
 saved_position-given-requires c =
     let pre = c.requires in
-    let compiled = pre.0.1 c.args.bytes.now in
+    let compiled = pre.accepted.1 c.args.bytes.now in
     let a = c.args in (
-      (let z : a.saved ≤ 128 = omega (arith, pre.1.0, compiled.tabled.counts, pre.0.0.operations_few) in z),
-      (let z : a.saved ≤ length a.buffer.now = omega (arith, pre.1.0, pre.1.1) in z),
+      (let z : a.saved ≤ 128 = omega (arith, pre.saved.0, compiled.tabled.counts, pre.accepted.0.operations_few) in z),
+      (let z : a.saved ≤ length a.buffer.now = omega (arith, pre.saved.0, pre.saved.1) in z),
     )
 
 pub affected_by-affected-requires : goal.affected_by-affected-requires
 affected_by-affected-requires c = let pre = c.requires in
-    let compiled = pre.0.1 c.args.bytes.now in omega (arith, compiled.tabled.counts, pre.0.0.operations_few)
+    let compiled = pre.accepted.1 c.args.bytes.now in omega (arith, compiled.tabled.counts, pre.accepted.0.operations_few)
 
 pub search_from-outcome-requires : goal.search_from-outcome-requires
 search_from-outcome-requires c =
     let pre = c.requires in
-    let compiled = pre.0.1 c.args.bytes.now in
+    let compiled = pre.accepted.1 c.args.bytes.now in
     let p = c.saved_position-given.ensures in (
-      omega (arith, compiled.tabled.counts, pre.0.0.operations_few),
-      omega (arith, p.1, pre.1.0),
-      ap (distinct c.args.t.count []) p.0 ∙ pre.1.2,
+      omega (arith, compiled.tabled.counts, pre.accepted.0.operations_few),
+      omega (arith, p.1, pre.saved.0),
+      ap (distinct c.args.t.count []) p.0 ∙ pre.saved.2,
       p.2,
       c.affected_by-affected.ensures,
     )
@@ -45,37 +45,37 @@ pub returns-then-not-consistent : goal.returns-then-not-consistent
 returns-then-not-consistent c =
     let a = c.args in
     let pre = c.requires in
-    let compiled = pre.0.1 c.args.bytes.now in
+    let compiled = pre.accepted.1 c.args.bytes.now in
     let e = execution_of a.bytes.now a.x in
     let r = c.refused.ensures in
     refused_reply a.buffer.now a.saved a.allowance c.refused.result 21 r.0 r.1 r.2
     ∙ ap (search_reply a.saved a.buffer.now) (searched_21 e (take a.saved a.buffer.now) a.allowance
     (keeps_is e (take a.saved a.buffer.now) ∙ ap (keeps (rules e)) (sym c.saved_position-given.ensures.0)
-    ∙ sym (c.search_from-outcome.ensures.told (keeps (rules e)) (tested_keeps c.put_rows.ensures pre.0.0 a.t.count compiled.tabled.counts) (consistent_closed e) (empty_keeps e))
+    ∙ sym (c.search_from-outcome.ensures.told (keeps (rules e)) (tested_keeps c.put_rows.ensures pre.accepted.0 a.t.count compiled.tabled.counts) (consistent_closed e) (empty_keeps e))
     ∙ c.if-not-consistent.true))
 
 pub write_position-requires : goal.write_position-requires
 write_position-requires c =
     let pre = c.requires in
-    let compiled = pre.0.1 c.args.bytes.now in
+    let compiled = pre.accepted.1 c.args.bytes.now in
     let a = c.args in (
-      omega (arith, c.search_from-outcome.ensures.bounded.short, compiled.tabled.counts, pre.0.0.operations_few),
-      (let z : c.search_from-outcome.result.position.length ≤ length a.buffer.now = omega (arith, c.search_from-outcome.ensures.bounded.short, pre.1.1) in z),
+      omega (arith, c.search_from-outcome.ensures.bounded.short, compiled.tabled.counts, pre.accepted.0.operations_few),
+      (let z : c.search_from-outcome.result.position.length ≤ length a.buffer.now = omega (arith, c.search_from-outcome.ensures.bounded.short, pre.saved.1) in z),
     )
 
 pub returns : goal.returns
 returns c =
     let a = c.args in
     let pre = c.requires in
-    let compiled = pre.0.1 c.args.bytes.now in
+    let compiled = pre.accepted.1 c.args.bytes.now in
     let e = execution_of a.bytes.now a.x in
     let p = c.saved_position-given.ensures in
     let d = c.search_from-outcome.ensures in
     let count = compiled.tabled.counts in
-    let table = tested_keeps c.put_rows.ensures pre.0.0 a.t.count count in
+    let table = tested_keeps c.put_rows.ensures pre.accepted.0 a.t.count count in
     let passes : keeps (rules e) (position_of c.saved_position-given.result) ≡ true = sym (d.told (keeps (rules e)) table (consistent_closed e) (empty_keeps e)) ∙ c.if-not-consistent.false in
     outcome_reply e a.buffer.now _ a.saved a.allowance a.t.count count (position_of c.saved_position-given.result) p.0 c.search_from-outcome.result
     (d.comes (keeps (rules e)) table (consistent_closed e) passes)
-    (omega (arith, d.bounded.short, d.bounded.whole, count, pre.0.0.operations_few)) c.write_position.ensures
+    (omega (arith, d.bounded.short, d.bounded.whole, count, pre.accepted.0.operations_few)) c.write_position.ensures
     (record { answer = c.answer_of.result; steps = c.search_from-outcome.result.steps; length = c.search_from-outcome.result.position.length }) c.answer_of.ensures refl refl
     ∙ ap (search_reply a.saved a.buffer.now) (searched_from e (take a.saved a.buffer.now) a.allowance (keeps_is e (take a.saved a.buffer.now) ∙ ap (keeps (rules e)) (sym p.0) ∙ passes))

@@ -1,4 +1,6 @@
 -- Each turn tests one entry and makes what is kept of one more.
+use mathlib.Core.Path.{ap}
+use mathlib.Core.Bool.{not}
 use Rattle.search_resume.proofs.ReplayLaws.{replay_done, entry_low, replay_closed, replay_refused, replay_more}
 use native.Mathlib.Omega.{arith}
 use Rattle.search_resume.proofs.replay.replay.Goals as goal
@@ -7,14 +9,14 @@ pub loop-j-init : goal.loop-j-init
 loop-j-init c =
     let pre = c.requires in
     record {
-      few = pre.0.0;
-      room = pre.0.1;
+      few = pre.kept.0;
+      room = pre.kept.1;
       within = omega arith;
-      whole = pre.1.0;
-      long = pre.1.1;
-      wide = pre.1.2;
-      different = pre.0.2;
-      kept = pre.0.3;
+      whole = pre.lengths.0;
+      long = pre.lengths.1;
+      wide = pre.lengths.2;
+      different = pre.kept.2;
+      kept = pre.kept.3;
       passes = λ p tested closed empty. empty;
     }
 
@@ -28,7 +30,7 @@ overflow_add-j c =
 
 pub at-candidates-requires : goal.at-candidates-requires
 at-candidates-requires c =
-    let inv = c.loop-j.invariant in (omega (arith, c.loop-j-test.true, inv.room, inv.few), omega (arith, c.loop-j-test.true, inv.room, inv.few, c.at-arg-in-loop-j-1.given))
+    let inv = c.loop-j.invariant in record { k_bound = omega (arith, c.loop-j-test.true, inv.room, inv.few); k_in_bounds = omega (arith, c.loop-j-test.true, inv.room, inv.few) }
 
 pub has-requires : goal.has-requires
 has-requires c =
@@ -36,7 +38,7 @@ has-requires c =
 
 pub returns-then-not-has : goal.returns-then-not-has
 returns-then-not-has c =
-    replay_closed c.loop-j.invariant c.wide-x.result c.loop-j-test.true c.wide-x.ensures.0 c.at-candidates.result.lo c.at-candidates.result.hi c.at-candidates.ensures c.has.ensures c.if-not-has.true
+    replay_closed c.loop-j.invariant c.wide-x.result c.loop-j-test.true c.wide-x.ensures.0 c.at-candidates.result.lo c.at-candidates.result.hi c.at-candidates.ensures c.has.ensures (ap not c.if-not-has.true)
 
 pub enter-requires : goal.enter-requires
 enter-requires c =
@@ -45,7 +47,7 @@ enter-requires c =
 
 pub returns-then-not-enter : goal.returns-then-not-enter
 returns-then-not-enter c =
-    replay_refused c.loop-j.invariant c.wide-x.result c.loop-j-test.true c.wide-x.ensures.0 c.at-candidates.result.lo c.at-candidates.result.hi c.at-candidates.ensures c.has.ensures c.enter.ensures c.if-not-enter.true
+    replay_refused c.loop-j.invariant c.wide-x.result c.loop-j-test.true c.wide-x.ensures.0 c.at-candidates.result.lo c.at-candidates.result.hi c.at-candidates.ensures c.has.ensures c.enter.ensures (ap not c.if-not-enter.true)
 
 pub overflow_add-j-in-loop-j : goal.overflow_add-j-in-loop-j
 overflow_add-j-in-loop-j c =
@@ -57,7 +59,7 @@ loop-j-smaller c =
 
 pub loop-j-preserved : goal.loop-j-preserved
 loop-j-preserved c =
-    replay_more c.loop-j.invariant c.wide-x.result c.loop-j-test.true c.wide-x.ensures.0 c.at-candidates.result.lo c.at-candidates.result.hi c.at-candidates.ensures c.has.ensures c.enter.ensures c.if-not-has.false c.if-not-enter.false c.requires.0.4
+    replay_more c.loop-j.invariant c.wide-x.result c.loop-j-test.true c.wide-x.ensures.0 c.at-candidates.result.lo c.at-candidates.result.hi c.at-candidates.ensures c.has.ensures c.enter.ensures (ap not c.if-not-has.false) (ap not c.if-not-enter.false) c.requires.kept.4
 
 pub returns : goal.returns
 returns c =

@@ -2,11 +2,11 @@
 use Prim.Native.Nat.{ℕ}
 use native.Mathlib.Omega.{arith}
 use mathlib.Core.Path.{refl, sym, ap, ◌∙◌, subst}
-use mathlib.Core.Bool.{Bool, cond}
+use mathlib.Core.Bool.{Bool, cond, not}
 use mathlib.Core.List.{List}
 use lib.ListN.{take}
 use lib.Dec.{eqb}
-use borrow.Author.Tests.{eqb-true, eqb-false}
+use borrow.Author.Tests.{eq-eqb}
 use Rattle.search_resume.proofs.ReplayLaws.{either_long}
 use lib.ListN as ListN
 use Rattle.record_decoded.specs.Positions.{position_of}
@@ -16,7 +16,7 @@ use Rattle.search_resume.proofs.steps.make_steps.Goals as goal
 
 pub loop-size-init : goal.loop-size-init
 loop-size-init c =
-    (going_starts c.requires.0.0 c.requires.0.1 c.requires.1.0 c.requires.1.1 c.requires.1.2 c.requires.0.2, omega (arith, c.requires.0.1), c.requires.1.0, c.requires.1.0)
+    (going_starts c.requires.kept.0 c.requires.kept.1 c.requires.lengths.0 c.requires.lengths.1 c.requires.lengths.2 c.requires.kept.2, omega (arith, c.requires.kept.1), c.requires.lengths.0, c.requires.lengths.0)
 
 pub keep_if-requires : goal.keep_if-requires
 keep_if-requires c = let l = c.loop-size in (l.invariant.0.whole, l.invariant.3)
@@ -24,7 +24,7 @@ keep_if-requires c = let l = c.loop-size in (l.invariant.0.whole, l.invariant.3)
 pub walk-next-requires : goal.walk-next-requires
 walk-next-requires c =
     let inv = c.loop-size.invariant.0 in
-    ((inv.few, inv.room, inv.kept, c.requires.0.3), (inv.whole, inv.long, inv.wide))
+    record { kept = (inv.few, inv.room, inv.kept, c.requires.kept.3); lengths = (inv.whole, inv.long, inv.wide) }
 
 pub returns-in-End : goal.returns-in-End
 returns-in-End c =
@@ -39,18 +39,18 @@ pub returns-then-last : goal.returns-then-last
 returns-then-last c =
     let g = c.args in
     let l = c.loop-size in
-    let same = c.keep_if.ensures ∙ ap (λ (b : Bool). cond b l.entries l.reached) c.if-last.true in
+    let same = c.keep_if.ensures ∙ ap (λ (b : Bool). cond b l.entries l.reached) (eq-eqb _ _ c.if-last.true) in
     record {
       told = refl;
       comes = subst (λ (entries : List ℕ). Comes g.n g.rows.now (position_of g.given) g.allowance (record { verdict = unfinished; steps = l.steps; position = take l.length entries })) (sym same)
-          (going_spent l.invariant.0 c.walk-next.ensures _ c.in-Next.is (omega (arith, eqb-true l.steps g.allowance c.if-last.true)));
+          (going_spent l.invariant.0 c.walk-next.ensures _ c.in-Next.is (omega (arith, c.if-last.true)));
       bounded = record { short = omega (arith, l.invariant.0.room); whole = ap ListN.length same ∙ l.invariant.0.whole };
     }
 
 pub overflow_add-steps : goal.overflow_add-steps
 overflow_add-steps c =
     let l = c.loop-size in
-    omega (arith, l.invariant.0.allows, eqb-false l.steps c.args.allowance c.if-last.false)
+    omega (arith, l.invariant.0.allows, c.if-last.false)
 
 pub returns-then-length-n : goal.returns-then-length-n
 returns-then-length-n c =
@@ -60,19 +60,19 @@ returns-then-length-n c =
     let found = c.in-Next.is in
     record {
       told = refl;
-      comes = going_found l.invariant.0 walked _ found (omega (arith, l.invariant.0.allows, eqb-false l.steps g.allowance c.if-last.false)) c.if-length-n.true;
+      comes = going_found l.invariant.0 walked _ found (omega (arith, l.invariant.0.allows, c.if-last.false)) c.if-length-n.true;
       bounded = record { short = omega (arith, c.if-length-n.true); whole = going_whole l.invariant.0 walked _ found };
     }
 
 pub loop-size-smaller : goal.loop-size-smaller
 loop-size-smaller c =
     let l = c.loop-size in
-    omega (arith, l.invariant.0.allows, eqb-false l.steps c.args.allowance c.if-last.false)
+    omega (arith, l.invariant.0.allows, c.if-last.false)
 
 pub loop-size-preserved : goal.loop-size-preserved
 loop-size-preserved c =
     let l = c.loop-size in (
-      going_on l.invariant.0 c.walk-next.ensures _ c.in-Next.is (omega (arith, l.invariant.0.allows, eqb-false l.steps c.args.allowance c.if-last.false)) c.if-length-n.false,
+      going_on l.invariant.0 c.walk-next.ensures _ c.in-Next.is (omega (arith, l.invariant.0.allows, c.if-last.false)) c.if-length-n.false,
       l.invariant.1,
       l.invariant.2,
       ap ListN.length c.keep_if.ensures ∙ either_long (eqb l.steps c.args.allowance) l.entries l.reached l.invariant.0.whole l.invariant.3,

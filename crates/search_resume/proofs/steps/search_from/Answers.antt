@@ -1,8 +1,9 @@
 -- The position is made again; what follows depends on whether it is consistent and whether it is full.
+use mathlib.Core.Bool.{not}
 use Rattle.search_resume.proofs.SearchFromLaws.{search_from_broken, search_from_full, search_from_ran}
 use Rattle.search_resume.proofs.ReplayLaws.{kept_none}
 use lib.ListN.{get_or-replicate, length-replicate}
-use mathlib.Core.Path.{refl}
+use mathlib.Core.Path.{refl, ap}
 use native.Mathlib.Omega.{arith}
 use Prim.Native.Nat.{ℕ}
 use borrow.Author.Rules.{rules}
@@ -15,27 +16,27 @@ first_level-requires c =
 pub replay-consistent-requires : goal.replay-consistent-requires
 replay-consistent-requires c =
     let pre = c.requires in
-    ((pre.0, pre.1, pre.2, kept_none pre.0 refl (c.first_level.ensures _), pre.4), (pre.3, refl, search rules))
+    record { kept = (pre.0, pre.1, pre.2, kept_none pre.0 refl (c.first_level.ensures _), pre.4); lengths = (pre.3, refl, search rules) }
 
 pub returns-then-not-consistent : goal.returns-then-not-consistent
 returns-then-not-consistent c =
     let pre = c.requires in
     let s = c.without_step.ensures in
-    search_from_broken c.args.allowance c.replay-consistent.ensures pre.1 pre.3 c.if-not-consistent.true s.0 s.3
+    search_from_broken c.args.allowance c.replay-consistent.ensures pre.1 pre.3 (ap not c.if-not-consistent.true) s.0 s.3
 
 pub returns-then-length-n : goal.returns-then-length-n
 returns-then-length-n c =
     let pre = c.requires in
     let s = c.without_step-then-length-n.ensures in
-    search_from_full c.args.allowance c.replay-consistent.ensures pre.1 pre.3 c.if-not-consistent.false c.if-length-n.true pre.0 s.0 s.1 s.2 s.3
+    search_from_full c.args.allowance c.replay-consistent.ensures pre.1 pre.3 (ap not c.if-not-consistent.false) c.if-length-n.true pre.0 s.0 s.1 s.2 s.3
 
 pub make_steps-requires : goal.make_steps-requires
 make_steps-requires c =
     let pre = c.requires in
     let made = c.replay-consistent.ensures in
-    ((pre.0, omega (arith, pre.1, c.if-length-n.false), made.kept (c.if-not-consistent.false), pre.4), (pre.3, made.long, made.wide))
+    record { kept = (pre.0, omega (arith, pre.1, c.if-length-n.false), made.kept (c.if-not-consistent.false), pre.4); lengths = (pre.3, made.long, made.wide) }
 
 pub returns : goal.returns
 returns c =
     let pre = c.requires in
-    search_from_ran c.args.allowance c.replay-consistent.ensures pre.1 pre.3 c.if-not-consistent.false c.make_steps.ensures
+    search_from_ran c.args.allowance c.replay-consistent.ensures pre.1 pre.3 (ap not c.if-not-consistent.false) c.make_steps.ensures
