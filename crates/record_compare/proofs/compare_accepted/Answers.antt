@@ -13,10 +13,10 @@ pub put_form-right_length-requires : goal.put_form-right_length-requires
 put_form-right_length-requires c = (c.requires.1, refl)
 
 pub slice_bounds-lex_order-end : goal.slice_bounds-lex_order-end
-slice_bounds-lex_order-end c = let p = c.put_form-left_length in sym (length-take-le p.result p.new.0 (omega (arith, p.ensures.1, p.auto.0)))
+slice_bounds-lex_order-end c = let p = c.put_form-left_length in sym (length-take-le p.result p.new.out (omega (arith, p.ensures.1, p.auto.out)))
 
 pub slice_bounds-lex_order-end-2 : goal.slice_bounds-lex_order-end-2
-slice_bounds-lex_order-end-2 c = let p = c.put_form-right_length in sym (length-take-le p.result p.new.0 (omega (arith, p.ensures.1, p.auto.0)))
+slice_bounds-lex_order-end-2 c = let p = c.put_form-right_length in sym (length-take-le p.result p.new.out (omega (arith, p.ensures.1, p.auto.out)))
 
 pub returns-in-Less : goal.returns-in-Less
 returns-in-Less c =
