@@ -1,4 +1,6 @@
 -- Each way out: questions 16 and 17, then what the lowest broken rule says.
+use borrow.Author.Tests.{not-true, not-false}
+use mathlib.Core.Bool.{not}
 use native.Mathlib.Omega.{arith}
 use mathlib.Core.Path.{sym, ap, ◌∙◌}
 use Rattle.record_decoded.specs.Decoded.{execution_of}
@@ -13,7 +15,10 @@ operations_of-t-requires c =
     let bytes = c.args.bytes.now in
     let x = c.args.x in
     let a = c.requires in
-    ((few_processors bytes x a, few_instructions bytes x a, few_operations bytes x a), consecutive_here bytes x a)
+    record {
+      bounds = (few_processors bytes x a, few_instructions bytes x a, few_operations bytes x a);
+      consecutive = consecutive_here bytes x a;
+    }
 
 pub returns-then-order-n : goal.returns-then-order-n
 returns-then-order-n c =
@@ -27,7 +32,7 @@ pub returns-then-not-placing : goal.returns-then-not-placing
 returns-then-not-placing c =
     let a = c.args in
     judged_17 (execution_of a.bytes.now a.x) a.order.now _ (count_is a.bytes.now a.x _ c.operations_of-t.ensures.counts) c.if-order-n.false
-    (sym c.place_all-placing.ensures.told ∙ c.if-not-placing.true)
+    (sym c.place_all-placing.ensures.told ∙ not-true _ c.if-not-placing.true)
 
 pub all_marks-marks-requires : goal.all_marks-marks-requires
 all_marks-marks-requires c =
@@ -42,18 +47,21 @@ lowest_broken-lowest-requires c =
     let x = c.args.x in
     let a = c.requires in
     let t = c.operations_of-t.ensures in
-    ((few_instructions bytes x a, few_lines bytes x a, few_processors bytes x a, omega (arith, t.counts, few_operations bytes x a)), λ every. compiled every x t (c.all_marks-marks.ensures every))
+    record {
+      bounds = (few_instructions bytes x a, few_lines bytes x a, few_processors bytes x a, omega (arith, t.counts, few_operations bytes x a));
+      compiled = λ every. compiled every x t (c.all_marks-marks.ensures every);
+    }
 
 pub returns-in-Unbroken : goal.returns-in-Unbroken
 returns-in-Unbroken c =
     let a = c.args in
-    let distinct = c.if-not-placing.false in
+    let distinct = not-false c.place_all-placing.result.distinct c.if-not-placing.false in
     judged_rules (execution_of a.bytes.now a.x) a.order.now _ (count_is a.bytes.now a.x _ c.operations_of-t.ensures.counts) c.if-order-n.false (sym c.place_all-placing.ensures.told ∙ distinct) _
     (ap lowest_meant (sym c.in-Unbroken.is) ∙ c.lowest_broken-lowest.ensures _ a.order.now (c.place_all-placing.ensures.places distinct))
 
 pub returns-in-Broken : goal.returns-in-Broken
 returns-in-Broken c =
     let a = c.args in
-    let distinct = c.if-not-placing.false in
+    let distinct = not-false c.place_all-placing.result.distinct c.if-not-placing.false in
     judged_rules (execution_of a.bytes.now a.x) a.order.now _ (count_is a.bytes.now a.x _ c.operations_of-t.ensures.counts) c.if-order-n.false (sym c.place_all-placing.ensures.told ∙ distinct) _
     (ap lowest_meant (sym c.in-Broken.is) ∙ c.lowest_broken-lowest.ensures _ a.order.now (c.place_all-placing.ensures.places distinct))

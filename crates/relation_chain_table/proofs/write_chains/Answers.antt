@@ -9,7 +9,10 @@ pub operations_of-t-requires : goal.operations_of-t-requires
 operations_of-t-requires c =
     let x = c.args.x in
     let a = c.requires [] in
-    ((few_processors [] x a, few_instructions [] x a, few_operations [] x a), consecutive_here [] x a)
+    record {
+      bounds = (few_processors [] x a, few_instructions [] x a, few_operations [] x a);
+      consecutive = consecutive_here [] x a;
+    }
 
 pub overflow_mul-n : goal.overflow_mul-n
 overflow_mul-n c = omega (arith, square_few [] c.args.x (c.requires []) c.operations_of-t.ensures)

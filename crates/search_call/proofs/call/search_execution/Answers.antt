@@ -1,4 +1,5 @@
 -- Each way out: questions 18 to 20, and what follows.
+use borrow.Author.Tests.{not-true, not-false}
 use mathlib.Core.Bool.{not}
 use native.Mathlib.Omega.{arith}
 use mathlib.Core.Path.{sym, ap, ◌∙◌}
@@ -46,7 +47,7 @@ returns-then-not-placing c =
     let r = c.refused-then-not-placing.ensures in
     refused_reply a.buffer.now a.saved a.allowance c.refused-then-not-placing.result 20 r.0 r.1 r.2
     ∙ ap (search_reply a.saved a.buffer.now) (searched_20 a.buffer.now a.saved a.allowance (execution_of a.bytes.now a.x) _ (count_is a.bytes.now a.x _ c.operations_of-t.ensures.counts) c.if-buffer-n.false c.if-n-saved.false
-    (sym c.place_all-placing.ensures.told ∙ c.if-not-placing.true))
+    (sym c.place_all-placing.ensures.told ∙ not-true _ c.if-not-placing.true))
 
 pub all_marks-marks-requires : goal.all_marks-marks-requires
 all_marks-marks-requires c =
@@ -60,7 +61,7 @@ search_on-requires c =
     let a = c.args in
     let t = c.operations_of-t.ensures in record {
       accepted = (c.requires, λ others. compiled others a.x t (c.all_marks-marks.ensures others));
-      saved = (c.if-n-saved.false, c.if-buffer-n.false, sym c.place_all-placing.ensures.told ∙ c.if-not-placing.false);
+      saved = (c.if-n-saved.false, c.if-buffer-n.false, sym c.place_all-placing.ensures.told ∙ not-false _ c.if-not-placing.false);
     }
 
 pub returns : goal.returns
@@ -68,4 +69,4 @@ returns c =
     let a = c.args in
     c.search_on.ensures
     ∙ ap (search_reply a.saved a.buffer.now) (searched_on a.buffer.now a.saved a.allowance (execution_of a.bytes.now a.x) _ (count_is a.bytes.now a.x _ c.operations_of-t.ensures.counts) c.if-buffer-n.false c.if-n-saved.false
-    (sym c.place_all-placing.ensures.told ∙ c.if-not-placing.false))
+    (sym c.place_all-placing.ensures.told ∙ not-false _ c.if-not-placing.false))
