@@ -1,7 +1,7 @@
 // The verdict program: reads a record from standard input and writes its verdict to standard output.
 #![tactic(auto)]
 
-ghost use Rattle.std.specs.Prelude.{◌≡◌, ◌≤◌, ◌×◌, IfOk, length};
+ghost use Rattle.std.specs.Prelude.{◌≡◌, ◌≤◌, IfOk, length};
 ghost use Rattle.model.specs.Verdict.{verdict_lines};
 
 use std::io;

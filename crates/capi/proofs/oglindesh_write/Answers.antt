@@ -8,4 +8,4 @@ pub returns : goal.returns
 returns c =
     let written = c.write-written in
     let reply = c.reply_of in
-    subst (λ (call : calls.RecordReply). Recorded call reply.result written.new.1.1.1.1.0) written.ensures (reply.ensures written.new.1.1.1.1.0)
+    subst (λ (call : calls.RecordReply). Recorded call reply.result written.new.buffer) written.ensures (reply.ensures written.new.buffer)

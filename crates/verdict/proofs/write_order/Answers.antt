@@ -14,7 +14,7 @@ pub loop-i-smaller : goal.loop-i-smaller
 loop-i-smaller c = omega arith
 
 pub loop-i-preserved : goal.loop-i-preserved
-loop-i-preserved c = (refl, writes_turn c.loop-i.invariant.1 (omega arith) c.write_number-next.auto.0 c.write_number-next.ensures)
+loop-i-preserved c = (refl, writes_turn c.loop-i.invariant.1 (omega arith) c.write_number-next.auto.out c.write_number-next.ensures)
 
 pub returns : goal.returns
 returns c = writes_end c.loop-i.invariant.1 (omega arith)

@@ -12,9 +12,9 @@ returns-then-not-is_unfinished c =
     let inv = c.loop-calls.invariant in
     let called = c.search-reply in
     let told = sym c.is_unfinished.ensures ∙ c.if-not-is_unfinished.true in (
-      calls_stop inv called.result called.ensures called.auto.1.0 (omega arith) told,
-      call_short inv called.result called.ensures called.auto.1.0,
-      called.auto.1.0 ∙ inv.long,
+      calls_stop inv called.result called.ensures called.auto.buffer (omega arith) told,
+      call_short inv called.result called.ensures called.auto.buffer,
+      called.auto.buffer ∙ inv.long,
     )
 
 pub loop-calls-smaller : goal.loop-calls-smaller
@@ -25,7 +25,7 @@ loop-calls-preserved c =
     let inv = c.loop-calls.invariant in
     let called = c.search-reply in
     let told = sym c.is_unfinished.ensures ∙ c.if-not-is_unfinished.false in
-    calls_turn inv called.result called.ensures called.auto.1.0 (omega arith) (omega arith) told
+    calls_turn inv called.result called.ensures called.auto.buffer (omega arith) (omega arith) told
 
 pub returns : goal.returns
 returns c = (calls_spent c.loop-calls.invariant c.loop-calls-test.false, c.loop-calls.invariant.short, c.loop-calls.invariant.long)

@@ -11,7 +11,7 @@ pub loop-i-smaller : goal.loop-i-smaller
 loop-i-smaller c = omega arith
 
 pub loop-i-preserved : goal.loop-i-preserved
-loop-i-preserved c = (refl, writes_turn c.loop-i.invariant.1 (omega arith) c.write_byte-next.auto.0 c.write_byte-next.ensures)
+loop-i-preserved c = (refl, writes_turn c.loop-i.invariant.1 (omega arith) c.write_byte-next.auto.out c.write_byte-next.ensures)
 
 pub returns : goal.returns
 returns c = appends_same (for_bytes _) (writes_end c.loop-i.invariant.1 (omega arith))
