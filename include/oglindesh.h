@@ -1,6 +1,6 @@
 /* The proved Itanium visibility judge and search, for C.
  *
- * Link target/staticlib/libcapi.a, which `rt staticlib capi` writes; nothing else is needed. examples/k1.c shows every call.
+ * Link target/staticlib/libcapi.a, which `tools/library` writes; nothing else is needed. examples/k1.c shows every call.
  * docs/FORMAT.md says how a record is written, and has the questions and the rules by their numbers.
  *
  * In every call:

@@ -1,4 +1,4 @@
-//! Links the proved library, which `rt staticlib capi` writes.
+//! Links the proved library, which `tools/library` writes.
 
 use std::path::Path;
 
@@ -9,7 +9,7 @@ fn main() {
     println!("cargo:rerun-if-changed={archive}");
     assert!(
         Path::new(&archive).exists(),
-        "target/staticlib/libcapi.a is missing: run 'rt staticlib capi' in the repository's root first"
+        "target/staticlib/libcapi.a is missing: run 'tools/library' in the repository first"
     );
     println!("cargo:rustc-link-search=native={folder}");
     println!("cargo:rustc-link-lib=static=capi");

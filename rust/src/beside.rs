@@ -173,7 +173,7 @@ pub fn verdict_program(pieces: &[&[u8]]) -> String {
     let program = Path::new(env!("CARGO_MANIFEST_DIR")).join("../target/bin/oglindesh");
     assert!(
         program.exists(),
-        "{} is missing: run `rt check oglindesh` in the repository",
+        "{} is missing: run `tools/program` in the repository",
         program.display()
     );
     let mut child = Command::new(&program)
