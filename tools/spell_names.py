@@ -14,6 +14,7 @@ import sys
 HERE = os.path.dirname(os.path.realpath(__file__))
 ROOT = sys.argv[1] if len(sys.argv) > 1 else os.getcwd()
 TABLE = dict(line.split("\t") for line in open(os.path.join(HERE, "names.tsv"), encoding="utf-8").read().split("\n") if line)
+PLAIN = re.compile(r"^[a-z0-9_]+$")
 TOKEN = re.compile(r'[^\s(){}\[\],;."`]+')
 IMPORT = re.compile(r"(?m)^\s*(?:pub )?use (Rattle\.(?!std)[^\s{]+)\.\{([^}]*)\}")
 ALIAS = re.compile(r"(?m)^\s*(?:pub )?use \S+ as (\S+)")
@@ -81,7 +82,8 @@ def main():
             if name == "Proof.antt":
                 new, _ = of_proof(text)
             elif name.endswith(".rt"):
-                new = by_lines(text, "//", turned)
+                # a word that is plain already is Rust's here, as the function entry_length
+                new = by_lines(text, "//", lambda line: turned(line, lambda token, before: not PLAIN.match(token)))
             else:
                 new = by_lines(text, "--", turned)
             if new != text:

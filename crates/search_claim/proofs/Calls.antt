@@ -13,7 +13,7 @@ use borrow.Author.Tests.{le-leb, ltb-true, ltb-false}
 use Rattle.base.proofs.Bools.{clash, and_parts}
 use Rattle.base.proofs.Lists.{distinct_length}
 use Rattle.model.specs.Execution.{Execution, operations}
-use Rattle.model.specs.Questions.{found, next, ask, read_record}
+use Rattle.model.specs.Questions.{found, read_record}
 use Rattle.model.specs.Rules.{rules, keeps, consistent}
 use Rattle.model.specs.Search.{allowed, forbidden, unfinished, Outcome, reached}
 use Rattle.model.specs.Calls.{Answer, says, refuses, and_then, asks, answer_of, read_all, search_position, search_saved, searching, SearchReply, search_reply, search_call}

@@ -9,7 +9,7 @@ use lib.ListN.{length, get_or, get_or-replicate}
 use lib.Bits.{xor_self}
 use lib.Dec.{eqb, ltb}
 use borrow.Author.Tests.{eq-eqb, eqb-true, le-leb, lt-ltb, not-true}
-use Rattle.base.specs.Lists.{any, keep, count, member, distinct}
+use Rattle.base.specs.Lists.{any, keep, member, distinct}
 use Rattle.base.specs.Below.{any_below}
 use Rattle.base.specs.Bits.{bit}
 use Rattle.base.proofs.Bools.{agree, split, clash, is_false, and_parts, and_both}

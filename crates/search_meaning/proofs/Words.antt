@@ -1,5 +1,5 @@
 -- The words of memory after a prefix hold, byte by byte, what the stores in it made visible or wrote.
-use Prim.Native.Nat.{ℕ, ◌-◌, ◌<◌}
+use Prim.Native.Nat.{ℕ, ◌<◌}
 use native.Mathlib.Omega.{arith}
 use native.Mathlib.Decide.{ℕ_discrete}
 use mathlib.Core.Path.{◌≡◌, refl, sym, ap, ◌∙◌}
@@ -10,7 +10,7 @@ use lib.Seq.{get_or-set_same, get_or-set_other}
 use lib.Bits.{bit_and, bit_xor}
 use lib.Dec.{eqb}
 use borrow.Author.Tests.{eq-eqb, ne_eqb, eqb-true}
-use Rattle.base.specs.Lists.{any, all}
+use Rattle.base.specs.Lists.{any}
 use Rattle.base.specs.Bits.{bit}
 use Rattle.search_sets.proofs.Bit.{has_or}
 use Rattle.search_sets.proofs.Laws.{has_minus, zero_has}

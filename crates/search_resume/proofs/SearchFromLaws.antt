@@ -8,7 +8,6 @@ use lib.ListN as ListN
 use lib.Seq.{length-take-le}
 use borrow.Author.Tests.{not-true, not-false}
 use Rattle.base.proofs.Bools.{clash}
-use Rattle.model.specs.Search as model
 use Rattle.search_walk.proofs.Gaps.{closed_front}
 use Rattle.record_decoded.specs.declared.position.Position.{Position}
 use Rattle.search_resume.specs.declared.steps.Outcome.{Outcome}

@@ -11,7 +11,7 @@ use Rattle.base.specs.Below.{any_below}
 use Rattle.base.specs.Bits.{bit}
 use Rattle.base.proofs.Bools.{clash}
 use Rattle.base.proofs.Tests.{any_below_same}
-use Rattle.model.specs.Execution.{Kind, kind_of, is_store, is_semaphore, R, LV, RV, operations, number_from}
+use Rattle.model.specs.Execution.{Kind, kind_of, is_store, is_semaphore, R, LV, RV, number_from}
 use Rattle.model.specs.Questions.{written_from}
 use Rattle.model.specs.Rules.{linked}
 use Rattle.model.specs.Accepted.{Accepted, Sound}

@@ -1,6 +1,5 @@
 -- Each way out: questions 16 and 17, then what the lowest broken rule says.
 use borrow.Author.Tests.{not-true, not-false}
-use mathlib.Core.Bool.{not}
 use native.Mathlib.Omega.{arith}
 use mathlib.Core.Path.{sym, ap, ◌∙◌}
 use Rattle.record_decoded.specs.Decoded.{execution_of}

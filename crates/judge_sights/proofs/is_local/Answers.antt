@@ -1,7 +1,7 @@
 -- The loop asks each store.
 use mathlib.Core.Path.{refl}
 use Rattle.base.proofs.Tests.{seeks, passes_by, meets, finds_none}
-use Rattle.judge_sights.specs.Sights.{makes_local, local_by}
+use Rattle.judge_sights.specs.Sights.{local_by}
 use native.Mathlib.Omega.{arith}
 use Rattle.judge_sights.proofs.is_local.Goals as goal
 

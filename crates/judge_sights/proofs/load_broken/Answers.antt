@@ -3,7 +3,6 @@ use mathlib.Core.Path.{sym, ◌∙◌}
 use mathlib.Core.Bool.{true, false}
 use Rattle.base.proofs.Tests.{seeks, passes_by, meets, finds_none}
 use Rattle.record_decoded.specs.Kinds.{meant}
-use Rattle.judge_sights.specs.Sights.{sight_broken}
 use Rattle.judge_sights.proofs.SightLaws.{load_none, load_is}
 use native.Mathlib.Omega.{arith}
 use Rattle.judge_sights.proofs.load_broken.Goals as goal

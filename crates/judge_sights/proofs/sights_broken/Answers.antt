@@ -1,7 +1,6 @@
 -- The loop asks each load.
 use mathlib.Core.Path.{refl, sym, ◌∙◌}
 use Rattle.base.proofs.Tests.{seeks, passes_by, meets, finds_none}
-use Rattle.judge_sights.specs.Sights.{load_broken}
 use Rattle.judge_sights.proofs.RuleLaws.{rule_by}
 use native.Mathlib.Omega.{arith}
 use Rattle.judge_sights.proofs.sights_broken.Goals as goal

@@ -4,7 +4,7 @@ use Rattle.search_sets.proofs.Members.{over, over_starts, over_next, over_ends}
 use Rattle.search_sets.specs.Set.{holds}
 use Rattle.base.proofs.Tests.{any_passes}
 use Rattle.base.proofs.Bools.{and_both}
-use mathlib.Core.Bool.{false, ◌&&◌, ◌||◌}
+use mathlib.Core.Bool.{◌&&◌, ◌||◌}
 use mathlib.Core.Path.{sym, ap₂, ◌∙◌}
 use native.Mathlib.Omega.{arith}
 use Rattle.search_admit.proofs.waits_for_any.Goals as goal

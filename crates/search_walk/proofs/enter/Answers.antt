@@ -1,6 +1,6 @@
 -- Refused, and nothing is done; or entered.
 use Rattle.search_admit.specs.Fits.{refused}
-use mathlib.Core.Bool.{true, false, not, false≢true}
+use mathlib.Core.Bool.{not, false≢true}
 use mathlib.Core.Path.{refl, sym, ap, ap₂, ◌∙◌}
 use Prim.Native.Nat.{ℕ}
 use Rattle.search_walk.proofs.enter.Goals as goal

@@ -1,7 +1,6 @@
 -- The instructions passed break nothing; the first that does decides.
 use native.Mathlib.Omega.{arith}
 use Rattle.base.proofs.Tests.{seeks, passes_by, meets, finds_none}
-use Rattle.judge_rules.specs.Tests.{pair_broken}
 use Rattle.judge_rules.proofs.pairwise.pairs_broken_with.Goals as goal
 
 pub loop-j-init : goal.loop-j-init

@@ -2,7 +2,7 @@
 use Prim.Native.Nat.{ℕ, ◌+◌}
 use native.Mathlib.Omega.{arith}
 use mathlib.Core.Path.{◌≡◌, refl, sym, ap, ◌∙◌}
-use lib.ListN.{length, take}
+use lib.ListN.{take}
 use Rattle.base.proofs.Entries.{entered_none, entered_more, entered_copy}
 use Rattle.record_decoded.proofs.position.saved_position.Goals as goal
 

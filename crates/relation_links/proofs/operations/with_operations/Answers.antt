@@ -2,8 +2,8 @@
 use Prim.Native.Nat.{ℕ, ◌+◌, ◌≤◌}
 use native.Mathlib.Omega.{arith}
 use mathlib.Core.Path.{◌≡◌, ap, ◌∙◌, subst}
-use lib.ListN.{length, get_or}
-use Rattle.model.specs.Execution.{Kind, kind_of, roles}
+use lib.ListN.{length}
+use Rattle.model.specs.Execution.{Kind, roles}
 use Rattle.record_decoded.specs.Kinds.{meant}
 use Rattle.relation_links.proofs.OperationLaws.{Filled, filled_none, filled_more, table_more}
 use borrow.Author.Rules.{rules}

@@ -1,6 +1,5 @@
 -- Each turn fills one operation; after all, the table holds the instruction's operations behind those before it.
 use Prim.Native.Nat.{◌≤◌}
-use Rattle.model.specs.Execution.{roles}
 use Rattle.record_decoded.specs.Kinds.{meant}
 use Rattle.relation_links.proofs.OperationLaws.{Filled}
 use Rattle.relation_links.proofs.operations.with_operations.Given as goal

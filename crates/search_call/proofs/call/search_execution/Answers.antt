@@ -1,6 +1,5 @@
 -- Each way out: questions 18 to 20, and what follows.
 use borrow.Author.Tests.{not-true, not-false}
-use mathlib.Core.Bool.{not}
 use native.Mathlib.Omega.{arith}
 use mathlib.Core.Path.{sym, ap, ◌∙◌}
 use lib.Seq.{length-take-le}

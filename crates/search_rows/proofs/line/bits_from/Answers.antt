@@ -2,7 +2,7 @@
 use Prim.Native.Nat.{◌%◌}
 use native.Mathlib.Omega.{arith}
 use mathlib.Core.Path.{◌∙◌}
-use mathlib.Core.Bool.{true, and-true}
+use mathlib.Core.Bool.{and-true}
 use Rattle.search_rows.proofs.LineLaws.{ones_bit, bytes_none, bytes_more, bytes_in}
 use Rattle.search_rows.proofs.line.bits_from.Goals as goal
 
