@@ -17,7 +17,6 @@ TABLE = dict(line.split("\t") for line in open(os.path.join(HERE, "names.tsv"), 
 PLAIN = re.compile(r"^[a-z0-9_]+$")
 TOKEN = re.compile(r'[^\s(){}\[\],;."`]+')
 IMPORT = re.compile(r"(?m)^\s*(?:pub )?use (Rattle\.(?!std)[^\s{]+)\.\{([^}]*)\}")
-ALIAS = re.compile(r"(?m)^\s*(?:pub )?use \S+ as (\S+)")
 
 
 def turned(text, is_wanted=lambda token, before: True):
@@ -55,19 +54,18 @@ def of_proof(text):
     helpers = {h for h in helpers if not h.endswith("-spec") and not h.endswith("_spec")}
     inner = set(re.findall(r"(?:let |where\n?\s+|in\s+)([^\s:=()]+) (?::|=) ", text)) | set(re.findall(r"(?m)^\s+([^\s:]+) : ", text))
     fields = {k for k in TABLE if "-" not in k}
-    aliases = set(ALIAS.findall(text))
 
     def is_wanted(token, before):
         if token in answers:
             return False
         if before == ".":
-            return token in fields and not re.match(r"^[a-z0-9_]+$", token)
+            return token in fields and not PLAIN.match(token)
         return token in imported or token in helpers or token in inner or re.search(r"[a-z][A-Z]", token) is not None
 
     def turn(line):
         return turned(line, is_wanted)
 
-    return by_lines(text, "--", turn), aliases
+    return by_lines(text, "--", turn)
 
 
 def main():
@@ -80,7 +78,7 @@ def main():
             with open(path, encoding="utf-8") as f:
                 text = f.read()
             if name == "Proof.antt":
-                new, _ = of_proof(text)
+                new = of_proof(text)
             elif name.endswith(".rt"):
                 # a word that is plain already is Rust's here, as the function entry_length
                 new = by_lines(text, "//", lambda line: turned(line, lambda token, before: not PLAIN.match(token)))
