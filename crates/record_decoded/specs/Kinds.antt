@@ -1,7 +1,8 @@
--- The kinds, roles and attributes of the code as those of the model, roles also by the numbers that arrays hold; a kind's row as one number.
-use Rattle.std.specs.Prelude.{ℕ, zero, suc, ◌/◌, ◌%◌, ◌≡◌, length, get_or, eqb}
+-- The kinds, roles and attributes of the code as those of the model, roles also by the numbers that arrays hold; a kind's row.
+use Rattle.std.specs.Prelude.{ℕ, zero, suc, ◌≡◌, length, get_or}
 use Rattle.model.specs.Execution as model
 use Rattle.record_decoded.specs.declared.kind.Kind.{Kind}
+use Rattle.record_decoded.specs.declared.kind.KindRow.{KindRow}
 use Rattle.record_decoded.specs.declared.kind.Kind.TheVariants.{Ld, LdAcq, St, StRel, Mf, SemAcq, SemRel}
 use Rattle.record_decoded.specs.declared.kind.Role.{Role}
 use Rattle.record_decoded.specs.declared.kind.Role.TheVariants.{R, LV, F, RV}
@@ -25,18 +26,17 @@ role_numbered (suc zero) = model.LV
 role_numbered (suc (suc zero)) = model.F
 role_numbered (suc (suc (suc q))) = model.RV q
 
--- A kind's row as one number: five bits, then the row and the column of the table of program-order rules, how many operations come before the RVs, and the role of
--- the first by its number.
-pub record RowNumber (n : ℕ) (r : model.KindRow) : Type 0 where
-  pub reads_is : eqb (n / 1 % 2) 1 ≡ r.reads
-  pub writes_is : eqb (n / 2 % 2) 1 ≡ r.writes
-  pub acquires_is : eqb (n / 4 % 2) 1 ≡ r.acquires
-  pub releases_is : eqb (n / 8 % 2) 1 ≡ r.releases
-  pub fences_is : eqb (n / 16 % 2) 1 ≡ r.fences
-  pub row_is : n % 256 / 32 ≡ r.row
-  pub column_is : n % 2048 / 256 ≡ r.column
-  pub before_is : n % 8192 / 2048 ≡ length r.before_remotes
-  pub first_is : role_numbered (n / 8192) ≡ get_or r.before_remotes 0 model.F
+-- A kind's row of the code as that of the model: how many operations come before the RVs, and the role of the first, stand for their list.
+pub record RowMeans (n : KindRow) (r : model.KindRow) : Type 0 where
+  pub reads_is : n.loads ≡ r.reads
+  pub writes_is : n.stores ≡ r.writes
+  pub acquires_is : n.acquires ≡ r.acquires
+  pub releases_is : n.releases ≡ r.releases
+  pub fences_is : n.fences ≡ r.fences
+  pub row_is : n.row ≡ r.row
+  pub column_is : n.column ≡ r.column
+  pub before_is : n.before_remotes ≡ length r.before_remotes
+  pub first_is : role_numbered n.first_role ≡ get_or r.before_remotes 0 model.F
 
 -- a role of the code as that of the model
 abbrev pub role_meant : Role → model.Role

@@ -15,8 +15,5 @@ pub fn initial_byte(bytes: &[u8], count: usize, address: usize) -> u8
         return 0;
     }
     let at = 3 + LINE_LENGTH * line + address % 8;
-    if bytes.len() <= at {
-        return 0;
-    }
-    bytes[at]
+    bytes.get(at).copied().unwrap_or(0)
 }

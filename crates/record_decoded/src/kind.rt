@@ -2,11 +2,11 @@
 ghost use Rattle.std.specs.Prelude.{◌≡◌, ℕ, ◌<◌, ◌≤◌, length, get_or};
 ghost use Rattle.model.specs.Execution.{F, kind_of, kind_row, attribute_number, attribute_of, is_load, is_store, is_semaphore, is_only_store, is_release, is_fence, roles, remotes_at, number_from};
 ghost use Rattle.model.specs.Questions.{question4, written_from};
-ghost use Rattle.record_decoded.specs.Kinds.{meant, RowNumber, role_meant, role_processor, role_numbered, attribute_meant};
+ghost use Rattle.record_decoded.specs.Kinds.{meant, RowMeans, role_meant, role_processor, role_numbered, attribute_meant};
 
-use crate::types::{OperationNo, VALUE_LENGTH, wide, wide16};
+use crate::types::{OperationNo, VALUE_LENGTH, wide};
 
-#[derive(Clone, Copy)]
+#[derive(Clone, Copy, Debug, PartialEq, Eq)]
 pub enum Kind {
     Ld,
     LdAcq,
@@ -44,65 +44,107 @@ pub const ROLE_F: u8 = 2;
 
 pub const ROLE_RV: u8 = 3;
 
-// What a kind does, as the parts of one number: a bit each for load, store, acquires, releases and fence; its row and its column of the table of program-order
-// rules; how many operations it gives before the RVs, and the role of the first.
-const LOADS: u16 = 1;
-
-const STORES: u16 = 2;
-
-const ACQUIRES: u16 = 4;
-
-const RELEASES: u16 = 8;
-
-const FENCES: u16 = 16;
-
-const ROW: u16 = 32;
-
-const COLUMN: u16 = 256;
-
-const BEFORE_REMOTES: u16 = 2048;
-
-const FIRST_ROLE: u16 = 8192;
+// What a kind does; its row and its column of the table of program-order rules; how many operations it gives before the RVs, and the role of the first.
+#[derive(Clone, Copy)]
+struct KindRow {
+    loads: bool,
+    stores: bool,
+    acquires: bool,
+    releases: bool,
+    fences: bool,
+    row: usize,
+    column: usize,
+    before_remotes: usize,
+    first_role: u8,
+}
 
 // One row for each kind.
-const LD: u16 = LOADS + 0 * ROW + 0 * COLUMN + 1 * BEFORE_REMOTES + ROLE_R as u16 * FIRST_ROLE;
+const LD: KindRow = KindRow {
+    loads: true,
+    stores: false,
+    acquires: false,
+    releases: false,
+    fences: false,
+    row: 0,
+    column: 0,
+    before_remotes: 1,
+    first_role: ROLE_R,
+};
 
-const LD_ACQ: u16 = LOADS
-    + ACQUIRES
-    + 1 * ROW
-    + 1 * COLUMN
-    + 1 * BEFORE_REMOTES
-    + ROLE_R as u16 * FIRST_ROLE;
+const LD_ACQ: KindRow = KindRow {
+    loads: true,
+    stores: false,
+    acquires: true,
+    releases: false,
+    fences: false,
+    row: 1,
+    column: 1,
+    before_remotes: 1,
+    first_role: ROLE_R,
+};
 
-const ST: u16 = STORES + 2 * ROW + 2 * COLUMN + 1 * BEFORE_REMOTES + ROLE_LV as u16 * FIRST_ROLE;
+const ST: KindRow = KindRow {
+    loads: false,
+    stores: true,
+    acquires: false,
+    releases: false,
+    fences: false,
+    row: 2,
+    column: 2,
+    before_remotes: 1,
+    first_role: ROLE_LV,
+};
 
-const ST_REL: u16 = STORES
-    + RELEASES
-    + 3 * ROW
-    + 3 * COLUMN
-    + 1 * BEFORE_REMOTES
-    + ROLE_LV as u16 * FIRST_ROLE;
+const ST_REL: KindRow = KindRow {
+    loads: false,
+    stores: true,
+    acquires: false,
+    releases: true,
+    fences: false,
+    row: 3,
+    column: 3,
+    before_remotes: 1,
+    first_role: ROLE_LV,
+};
 
-const MF: u16 = FENCES + 4 * ROW + 4 * COLUMN + 1 * BEFORE_REMOTES + ROLE_F as u16 * FIRST_ROLE;
+const MF: KindRow = KindRow {
+    loads: false,
+    stores: false,
+    acquires: false,
+    releases: false,
+    fences: true,
+    row: 4,
+    column: 4,
+    before_remotes: 1,
+    first_role: ROLE_F,
+};
 
-const SEM_ACQ: u16 = LOADS
-    + STORES
-    + ACQUIRES
-    + 1 * ROW
-    + 2 * COLUMN
-    + 2 * BEFORE_REMOTES
-    + ROLE_R as u16 * FIRST_ROLE;
+const SEM_ACQ: KindRow = KindRow {
+    loads: true,
+    stores: true,
+    acquires: true,
+    releases: false,
+    fences: false,
+    row: 1,
+    column: 2,
+    before_remotes: 2,
+    first_role: ROLE_R,
+};
 
-const SEM_REL: u16 = LOADS
-    + STORES
-    + RELEASES
-    + 3 * ROW
-    + 3 * COLUMN
-    + 2 * BEFORE_REMOTES
-    + ROLE_R as u16 * FIRST_ROLE;
+const SEM_REL: KindRow = KindRow {
+    loads: true,
+    stores: true,
+    acquires: false,
+    releases: true,
+    fences: false,
+    row: 3,
+    column: 3,
+    before_remotes: 2,
+    first_role: ROLE_R,
+};
 
-fn kind_row(k: Kind) -> u16
-    ensures { RowNumber result (kind_row (meant k)) }
+fn kind_row(k: Kind) -> KindRow
+    ensures { RowMeans result (kind_row (meant k)) }
 {
     match k {
         Kind::Ld => LD,
@@ -118,27 +160,27 @@ fn kind_row(k: Kind) -> u16
 pub fn is_load(k: Kind) -> bool
     ensures { result ≡ is_load (meant k) }
 {
-    kind_row(k) / LOADS % 2 == 1
+    kind_row(k).loads
 }
 
 pub fn is_store(k: Kind) -> bool
     ensures { result ≡ is_store (meant k) }
 {
-    kind_row(k) / STORES % 2 == 1
+    kind_row(k).stores
 }
 
 // A semaphore: both a load and a store.
 pub fn is_semaphore(k: Kind) -> bool
     ensures { result ≡ is_semaphore (meant k) }
 {
-    if is_load(k) { is_store(k) } else { false }
+    is_load(k) && is_store(k)
 }
 
 // A store that is no semaphore.
 pub fn is_only_store(k: Kind) -> bool
     ensures { result ≡ is_only_store (meant k) }
 {
-    if is_store(k) { !is_load(k) } else { false }
+    is_store(k) && !is_load(k)
 }
 
 // The place of the bytes written among the data bytes of an instruction.
@@ -151,38 +193,38 @@ pub fn written_from(k: Kind) -> usize
 pub fn is_release(k: Kind) -> bool
     ensures { result ≡ is_release (meant k) }
 {
-    kind_row(k) / RELEASES % 2 == 1
+    kind_row(k).releases
 }
 
 pub fn is_fence(k: Kind) -> bool
     ensures { result ≡ is_fence (meant k) }
 {
-    kind_row(k) / FENCES % 2 == 1
+    kind_row(k).fences
 }
 
 // A kind's row of the table of program-order rules, as the earlier instruction's.
 pub fn table_row(k: Kind) -> usize
     ensures { (result ≡ (kind_row (meant k)).row) × (result < 5) }
 {
-    wide16(kind_row(k) % COLUMN / ROW)
+    kind_row(k).row
 }
 
 // A kind's column of that table, as the later instruction's.
 pub fn table_column(k: Kind) -> usize
     ensures { (result ≡ (kind_row (meant k)).column) × (result < 5) }
 {
-    wide16(kind_row(k) % BEFORE_REMOTES / COLUMN)
+    kind_row(k).column
 }
 
 // How many operations a kind gives before the RVs.
 pub fn before_remotes(k: Kind) -> usize
     ensures { (result ≡ remotes_at (meant k)) × (1 ≤ result) × (result < 4) }
 {
-    wide16(kind_row(k) % FIRST_ROLE / BEFORE_REMOTES)
+    kind_row(k).before_remotes
 }
 
 // What an operation is to its instruction; RV with the processor that it is visible to.
-#[derive(Clone, Copy)]
+#[derive(Clone, Copy, Debug, PartialEq, Eq)]
 pub enum Role {
     R,
     LV,
@@ -214,7 +256,7 @@ pub fn number_of(first: OperationNo, k: Kind, role: Role) -> OperationNo
 fn first_role(k: Kind) -> u8
     ensures { role_numbered result ≡ get_or (kind_row (meant k)).before_remotes 0 F }
 {
-    (kind_row(k) / FIRST_ROLE) as u8
+    kind_row(k).first_role
 }
 
 // The role of an instruction's operation by its place among them. Where two come before the RVs, the second is LV.
@@ -247,7 +289,7 @@ pub fn operation_count(k: Kind, processors: usize) -> usize
 }
 
 // The attribute of a line; UC with its peripheral domain.
-#[derive(Clone, Copy)]
+#[derive(Clone, Copy, Debug, PartialEq, Eq)]
 pub enum Attribute {
     WB,
     UC(u8),

@@ -1,4 +1,4 @@
-// The decoded execution: kinds, roles, attributes, numbers, the arrays that hold an execution, the attribute and the initial bytes of memory, and positions.
+// The decoded execution: kinds, roles, attributes, numbers, questions, the arrays that hold an execution, the attribute and the initial bytes of memory, and positions.
 #![tactic(auto)]
 
 pub mod initial;
@@ -6,4 +6,5 @@ pub mod kind;
 pub mod memory;
 pub mod number;
 pub mod position;
+pub mod question;
 pub mod types;

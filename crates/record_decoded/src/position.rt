@@ -30,13 +30,12 @@ pub fn saved_position(buffer: &[u8], saved: usize) -> Position
     requires { (saved ≤ 128) × (saved ≤ ListN.length buffer.now) }
     ensures { (position_of result ≡ take saved buffer.now) × (result.length ≡ saved) × (ListN.length result.entries ≡ 128) }
 {
-    let begin = Position::empty();
-    let mut entries = begin.entries;
-    for i in 0..saved {
-        entries[i] = buffer[i];
+    let mut entries = [0u8; Position::LIMIT];
+    entries[..saved].copy_from_slice(&buffer[..saved]);
+    Position {
+        length: saved,
+        entries,
     }
-    let length = begin.length + saved;
-    Position { length, entries }
 }
 
 // Writes a position at the front of a buffer.
@@ -45,8 +44,5 @@ pub fn write_position(buffer: &mut [u8], position: Position)
     ensures { buffer.new ≡ paste buffer.old 0 position.entries position.length }
 {
     let n = position.length;
-    let entries = position.entries;
-    for i in 0..n {
-        buffer[i] = entries[i];
-    }
+    buffer[..n].copy_from_slice(&position.entries[..n]);
 }

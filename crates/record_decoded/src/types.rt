@@ -1,4 +1,4 @@
-// The decoded execution as flat arrays of numbers, and how far a section of the record was read.
+// The decoded execution as flat arrays of numbers.
 ghost use Rattle.std.specs.Prelude.{◌≡◌, ◌+◌, ◌<◌, ◌≤◌, length, drop};
 ghost use Rattle.std.proofs.Math.Seq.{paste};
 
@@ -72,20 +72,6 @@ pub struct Execution {
     pub pairs: Pairs,
 }
 
-// What reading a part of the record comes to: the question that fails, or the index after what was read.
-#[derive(Clone, Copy)]
-pub enum Step {
-    Refused(u8),
-    Next(usize),
-}
-
-// What the questions of one item come to: it passes, and is so many bytes long; or the question that fails.
-#[derive(Clone, Copy)]
-pub enum Asked {
-    Pass(usize),
-    Fail(u8),
-}
-
 // A byte as a number.
 pub fn wide(b: u8) -> usize
     ensures { (result ≡ b) × (result < 256) }
@@ -105,7 +91,5 @@ pub fn copy_bytes(to: &mut [u8], at: usize, from: &[u8], start: usize, n: usize)
     requires { (at + n ≤ length to.old) × (start + n ≤ length from.now) }
     ensures { to.new ≡ paste to.old at (drop start from.now) n }
 {
-    for j in 0..n {
-        to[at + j] = from[start + j];
-    }
+    to[at..at + n].copy_from_slice(&from[start..start + n]);
 }

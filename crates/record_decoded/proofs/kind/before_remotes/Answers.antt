@@ -10,4 +10,4 @@ unfolding remotes_at
 returns c =
     let r = c.kind_row.ensures in
     let (some, few) = some_before_remotes (meant c.args.k) in
-    (omega (arith, r.before_is, c.wide16.ensures.0), omega (arith, r.before_is, c.wide16.ensures.0), omega (arith, r.before_is, c.wide16.ensures.0))
+    (omega (arith, r.before_is), omega (arith, r.before_is), omega (arith, r.before_is))

@@ -1,11 +1,8 @@
--- The row of the table is a part of what stands for the kind.
+-- The row of the table is that of the kind's row.
 use native.Mathlib.Omega.{arith}
-use mathlib.Core.Path.{◌∙◌}
 use Rattle.record_decoded.proofs.Counts.{row_below}
 use Rattle.record_decoded.specs.Kinds.{meant}
 use Rattle.record_decoded.proofs.kind.table_row.Goals as goal
 
 pub returns : goal.returns
-returns c =
-    let r = c.kind_row.ensures in
-    (c.wide16.ensures.0 ∙ r.row_is, omega (arith, c.wide16.ensures.0, r.row_is, row_below (meant c.args.k)))
+returns c = (c.kind_row.ensures.row_is, omega (arith, c.kind_row.ensures.row_is, row_below (meant c.args.k)))
