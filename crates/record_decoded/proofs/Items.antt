@@ -1,7 +1,7 @@
 -- What the questions of an item come to, and loops over items: what is left decides the whole.
 use Prim.Native.Nat.{ℕ, suc, ◌+◌, ◌-◌, ◌≤◌, ◌<◌}
 use native.Mathlib.Omega.{arith}
-use mathlib.Core.Path.{◌≡◌, refl, sym, ap, ◌∙◌}
+use mathlib.Core.Path.{◌≡◌, refl, sym, ap, ap₂, ◌∙◌}
 use mathlib.Core.List.{List, [], ◌∷◌, ◌++◌}
 use lib.ListN.{length, get_or, take, drop}
 use borrow.Author.Tests.{le-leb, lt-leb}
@@ -32,10 +32,10 @@ pub record Going {A : Type 0} (read : List A → Reader A) (whole : Found (List 
   pub turns : i ≤ n
   pub decides : whole ≡ many read (n - i) done rest
 
-pub going_starts : {A : Type 0} {read : List A → Reader A} {n : ℕ} {d done : List A} {rest : List ℕ} → done ≡ d → Going read (many read n d rest) n 0 done rest
-going_starts {A} {read} {n} {d} {done} {rest} e = record {
+pub going_starts : {A : Type 0} {read : List A → Reader A} {n : ℕ} {d done : List A} {r rest : List ℕ} → done ≡ d → rest ≡ r → Going read (many read n d r) n 0 done rest
+going_starts {A} {read} {n} {d} {done} {r} {rest} e f = record {
   turns = omega arith;
-  decides = ap (λ (l : List A). many read n l rest) (sym e) ∙ ap (λ (k : ℕ). many read k done rest) (let z : n ≡ n - 0 = omega arith in z);
+  decides = ap₂ (λ (l : List A) (b : List ℕ). many read n l b) (sym e) (sym f) ∙ ap (λ (k : ℕ). many read k done rest) (let z : n ≡ n - 0 = omega arith in z);
 }
 
 module _ {A : Type 0} {read : List A → Reader A} {whole : Found (List A)} {n i : ℕ} {done : List A} {rest : List ℕ}

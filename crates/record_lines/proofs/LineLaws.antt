@@ -3,7 +3,7 @@ use Prim.Native.Nat.{ℕ, ◌+◌, ◌-◌, ◌*◌, ◌≤◌, ◌<◌}
 use native.Mathlib.Omega.{arith}
 use native.Mathlib.Nat.{add-zero}
 use native.Mathlib.Numerals.{add-one}
-use mathlib.Core.Path.{◌≡◌, sym, ap, ◌∙◌}
+use mathlib.Core.Path.{◌≡◌, sym, ap, subst, ◌∙◌}
 use mathlib.Core.List.{List, [], ◌∷◌, ◌++◌, map}
 use lib.ListN.{length, get_or, take, drop, set}
 use lib.Seq.{get_or-set_same, get_or-set_other, get_or-take, get_or-drop, drop-drop}
@@ -13,12 +13,10 @@ use borrow.Author.Tests.{le-leb, lt-leb}
 use Rattle.base.specs.Lists.{below}
 use Rattle.base.proofs.Lists.{map_below_more}
 use Rattle.model.specs.Execution.{Line, attribute_of}
-use Rattle.model.specs.Questions.{line_of, read_line, read_lines, many, no_to, next, ask, question3, question4}
+use Rattle.model.specs.Questions.{line_of, Found, read_line, read_lines, many, no_to, found, next, ask, question3, question4}
 use Rattle.record_decoded.specs.declared.types.Lines.{Lines}
 use Rattle.record_decoded.specs.Decoded.{decoded_line, lines_of}
-use Rattle.record_decoded.specs.declared.types.Asked.TheVariants.{Pass, Fail}
-use Rattle.record_decoded.specs.Steps.{Answered}
-use Rattle.record_decoded.proofs.Items.{item_short, item_there, item_first, byte_short, byte_there, fails, passes}
+use Rattle.record_decoded.proofs.Items.{Going, going_on, item_short, item_there, byte_short, byte_there}
 use Rattle.record_decoded.proofs.DataBytes.{drop_take}
 
 module _ (x r : Lines) (part : List ℕ) (at : ℕ) (few : x.count < 8) (here : at ≡ 1 + 9 * x.count)
@@ -64,19 +62,18 @@ module _ (x r : Lines) (part : List ℕ) (at : ℕ) (few : x.count < 8) (here : 
       ∙ ap (λ (l : Line). lines_of part x ++ (l ∷ [])) line_new
 
 -- the questions of a line
-module _ (part : List ℕ) (at : ℕ) where
-  pub line_short : length part - at < 9 → Answered (read_line (drop at part)) part at 9 (Fail 1) (line_of (take 9 (drop at part)))
+module _ (part : List ℕ) where
+  pub line_short : length part < 9 → read_line part ≡ no_to 1
   unfolding read_line next
-  line_short h = fails (rw (item_short 9 at part h))
+  line_short h = rw (item_short 9 part h)
 
-  module _ (room : at + 9 ≤ length part) where
-    pub line_unknown : question4 (get_or part at 0) ≡ false → Answered (read_line (drop at part)) part at 9 (Fail 4) (line_of (take 9 (drop at part)))
-    unfolding read_line next ask
-    line_unknown h = fails (rw (item_there 9 at part room, item_first 9 at part (omega arith), h))
+  pub line_unknown : 9 ≤ length part → question4 (get_or (take 9 part) 0 0) ≡ false → read_line part ≡ no_to 4
+  unfolding read_line next ask
+  line_unknown room h = rw (item_there 9 part room, h)
 
-    pub line_passes : question4 (get_or part at 0) ≡ true → Answered (read_line (drop at part)) part at 9 (Pass 9) (line_of (take 9 (drop at part)))
-    unfolding read_line next ask
-    line_passes h = passes (rw (item_there 9 at part room, item_first 9 at part (omega arith), h)) room
+  pub line_passes : 9 ≤ length part → question4 (get_or (take 9 part) 0 0) ≡ true → read_line part ≡ found (line_of (take 9 part)) (drop 9 part)
+  unfolding read_line next ask
+  line_passes room h = rw (item_there 9 part room, h)
 
 -- the count of lines, and its question
 module _ (part : List ℕ) where
@@ -104,3 +101,22 @@ too_many n h = rw (lt-leb n 8 h) (and-false (leb 1 n))
 pub enough : (n : ℕ) → 1 ≤ n → n ≤ 8 → question3 n ≡ true
 unfolding question3
 enough n h k = rw (le-leb 1 n h, le-leb n 8 k)
+
+-- a turn of the loop over lines: it is read from the bytes that are left, and taken in
+module _ (part : List ℕ) (x r : Lines) (n i a : ℕ) {rest after : List ℕ} {whole : Found (List Line)}
+    (going : Going (λ done. read_line) whole n i (lines_of part x) rest) (counted : x.count ≡ i) (here : rest ≡ drop (1 + 9 * i) part) where
+  pub line_turn : i < n → read_line rest ≡ found (line_of (take 9 rest)) after → a ≡ get_or rest 0 0 → after ≡ drop 9 rest
+      → r.count ≡ x.count + 1
+      → (get_or part (1 + 9 * x.count) 0 ≡ a → lines_of part r ≡ lines_of part x ++ (line_of (take 9 (drop (1 + 9 * x.count) part)) ∷ []))
+      → Going (λ done. read_line) whole n (i + 1) (lines_of part r) after × (r.count ≡ i + 1) × (after ≡ drop (1 + 9 * (i + 1)) part)
+  line_turn few read first left more holds =
+      let rest_is : rest ≡ drop (1 + 9 * x.count) part = here ∙ ap (λ (k : ℕ). drop (1 + 9 * k) part) (sym counted) in
+      let byte : get_or part (1 + 9 * x.count) 0 ≡ a =
+          ap (λ (k : ℕ). get_or part k 0) (sym (add-zero (1 + 9 * x.count))) ∙ sym (first ∙ ap (λ (l : List ℕ). get_or l 0 0) rest_is ∙ get_or-drop (1 + 9 * x.count) part 0 0) in
+      (
+        subst (λ (l : List Line). Going (λ done. read_line) whole n (i + 1) l after)
+            (ap (λ (l : List ℕ). lines_of part x ++ (line_of (take 9 l) ∷ [])) rest_is ∙ sym (holds byte))
+            (going_on going few read),
+        omega (arith, more, counted),
+        left ∙ ap (drop 9) here ∙ drop-drop 9 (1 + 9 * i) part ∙ ap (λ (k : ℕ). drop k part) (let z : 1 + 9 * i + 9 ≡ 1 + 9 * (i + 1) = omega arith in z),
+      )

@@ -1,19 +1,14 @@
 // The section of lines.
 #![tactic(auto)]
 
-ghost use Rattle.std.specs.Prelude.{◌≡◌, List, [], ◌∷◌, ◌++◌, ℕ, ◌+◌, ◌*◌, ◌<◌, ◌≤◌, length, take, drop};
-ghost use Rattle.model.specs.Questions.{line_length, line_of, read_line, read_lines, many};
+ghost use Rattle.std.specs.Prelude.{◌≡◌, List, [], ◌∷◌, ◌++◌, ℕ, ◌+◌, ◌*◌, ◌<◌, ◌≤◌, IfOk, get_or, take, drop};
+ghost use Rattle.model.specs.Questions.{line_length, line_of, read_line, read_lines};
 ghost use Rattle.record_decoded.specs.Decoded.{lines_of};
-ghost use Rattle.record_decoded.specs.Steps.{Answered, ComesTo};
+ghost use Rattle.record_decoded.specs.Reads.{found_by};
 
 use record_decoded::kind::is_attribute;
-use record_decoded::types::{Asked, LINE_LENGTH, Lines, MOST_LINES, Step};
-
-#[derive(Clone, Copy)]
-pub struct LinesRead {
-    pub step: Step,
-    pub lines: Lines,
-}
+use record_decoded::question::Question;
+use record_decoded::types::{LINE_LENGTH, Lines, MOST_LINES};
 
 pub fn no_lines() -> Lines
     ensures { (result.count ≡ 0) × ((part : List ℕ) → lines_of part result ≡ []) }
@@ -24,82 +19,49 @@ pub fn no_lines() -> Lines
     }
 }
 
-// The questions of the line at `at`.
-fn line_question(part: &[u8], at: usize) -> Asked
-    requires { at ≤ length part.now }
-    ensures { Answered (read_line (drop at part.now)) part.now at line_length result (line_of (take line_length (drop at part.now))) }
+// The attribute byte of the line at the front of a part, whose initial bytes stand behind it, and what is left behind these.
+fn read_line(part: &[u8]) -> Result<(u8, &[u8]), Question>
+    ensures walked { read_line part.now ≡ found_by (λ (_ : ℕ). line_of (take line_length part.now)) result }
+    ensures front { IfOk result (λ r. (r.0 ≡ get_or part.now 0 0) × (r.1.now ≡ drop line_length part.now)) }
 {
-    if part.len() - at < LINE_LENGTH {
-        return Asked::Fail(1);
+    let Some((line, rest)) = part.split_first_chunk::<LINE_LENGTH>() else {
+        return Err(Question::Bytes);
+    };
+    if !is_attribute(line[0]) {
+        return Err(Question::Attribute);
     }
-    if !is_attribute(part[at]) {
-        return Asked::Fail(4);
-    }
-    Asked::Pass(LINE_LENGTH)
+    Ok((line[0], rest))
 }
 
-// One line more, from the nine bytes at `at`.
-fn with_line(x: Lines, part: &[u8], at: usize) -> Lines
-    requires { (x.count < 8) × (at ≡ 1 + line_length * x.count) × (at + line_length ≤ length part.now) }
-    ensures { (result.count ≡ x.count + 1) × (lines_of part.now result ≡ lines_of part.now x ++ (line_of (take line_length (drop at part.now)) ∷ [])) }
+// One line more, of an attribute byte that stands behind those before it and their initial bytes.
+fn with_line(x: Lines, attribute: u8) -> Lines
+    requires { x.count < 8 }
+    ensures counted { result.count ≡ x.count + 1 }
+    ensures holds { (part : List ℕ) → get_or part (1 + line_length * x.count) 0 ≡ attribute
+        → lines_of part result ≡ lines_of part x ++ (line_of (take line_length (drop (1 + line_length * x.count) part)) ∷ []) }
 {
-    let k = x.count;
-    let mut attributes = x.attributes;
-    attributes[k] = part[at];
-    let count = k + 1;
-    Lines { count, attributes }
+    let mut lines = x;
+    lines.attributes[x.count] = attribute;
+    lines.count = x.count + 1;
+    lines
 }
 
-// So many lines, after their count.
-fn line_entries(part: &[u8], n: u8) -> LinesRead
-    requires { (n ≤ 8) × (1 ≤ length part.now) }
-    ensures { ComesTo (many (λ done. read_line) n [] (drop 1 part.now)) part.now result.step (lines_of part.now result.lines) × (result.lines.count ≤ 8) }
+// The lines, from their count on, and what is left behind them.
+pub fn read_lines(part: &[u8]) -> Result<(Lines, &[u8]), Question>
+    ensures walked { read_lines part.now ≡ found_by (lines_of part.now) result }
+    ensures few { IfOk result (λ r. r.0.count ≤ 8) }
 {
+    let Some((&n, mut rest)) = part.split_first() else {
+        return Err(Question::Bytes);
+    };
+    if n < 1 || MOST_LINES < n {
+        return Err(Question::Lines);
+    }
     let mut lines = no_lines();
-    let mut at = 1;
-    for i in 0..n {
-        let asked = line_question(part, at);
-        match asked {
-            Asked::Fail(q) => {
-                return LinesRead {
-                    step: Step::Refused(q),
-                    lines,
-                };
-            }
-            Asked::Pass(size) => {
-                lines = with_line(lines, part, at);
-                at = at + size;
-            }
-        }
+    for _ in 0..n {
+        let (attribute, after) = read_line(rest)?;
+        lines = with_line(lines, attribute);
+        rest = after;
     }
-    LinesRead {
-        step: Step::Next(at),
-        lines,
-    }
-}
-
-// The lines, from their count on.
-pub fn read_lines(part: &[u8]) -> LinesRead
-    ensures { ComesTo (read_lines part.now) part.now result.step (lines_of part.now result.lines) × (result.lines.count ≤ 8) }
-{
-    if part.len() < 1 {
-        return LinesRead {
-            step: Step::Refused(1),
-            lines: no_lines(),
-        };
-    }
-    let n = part[0];
-    if n < 1 {
-        return LinesRead {
-            step: Step::Refused(3),
-            lines: no_lines(),
-        };
-    }
-    if MOST_LINES < n {
-        return LinesRead {
-            step: Step::Refused(3),
-            lines: no_lines(),
-        };
-    }
-    line_entries(part, n)
+    Ok((lines, rest))
 }
