@@ -45,11 +45,12 @@ module _ {A : Type 0} {read : List A → Reader A} {whole : Found (List A)} {n i
   unfolding many
   turn h = inv.decides ∙ ap (λ (k : ℕ). many read k done rest) (let z : n - i ≡ suc (n - (i + 1)) = omega arith in z)
 
-  pub going_on : {value : A} {after : List ℕ} → i < n → read done rest ≡ found value after → Going read whole n (i + 1) (done ++ (value ∷ [])) after
+  pub going_on : {value : A} {after : List ℕ} {more : List A} → i < n → read done rest ≡ found value after → more ≡ done ++ (value ∷ [])
+      → Going read whole n (i + 1) more after
   unfolding next
-  going_on h e = record {
+  going_on {value} {after} {more} h e m = record {
     turns = omega arith;
-    decides = turn h ∙ ap (λ (f : Found A). next f (λ b. many read (n - (i + 1)) (done ++ (b ∷ [])))) e;
+    decides = turn h ∙ ap (λ (f : Found A). next f (λ b. many read (n - (i + 1)) (done ++ (b ∷ [])))) e ∙ ap (λ (l : List A). many read (n - (i + 1)) l after) (sym m);
   }
 
   pub going_fails : {q : ℕ} → i < n → read done rest ≡ no_to q → whole ≡ no_to q

@@ -3,7 +3,7 @@ use Prim.Native.Nat.{ℕ, ◌+◌, ◌-◌, ◌*◌, ◌≤◌, ◌<◌}
 use native.Mathlib.Omega.{arith}
 use native.Mathlib.Nat.{add-zero}
 use native.Mathlib.Numerals.{add-one}
-use mathlib.Core.Path.{◌≡◌, sym, ap, subst, ◌∙◌}
+use mathlib.Core.Path.{◌≡◌, sym, ap, ◌∙◌}
 use mathlib.Core.List.{List, [], ◌∷◌, ◌++◌, map}
 use lib.ListN.{length, get_or, take, drop, set}
 use lib.Seq.{get_or-set_same, get_or-set_other, get_or-take, get_or-drop, drop-drop}
@@ -114,9 +114,7 @@ module _ (part : List ℕ) (x r : Lines) (n i a : ℕ) {rest after : List ℕ} {
       let byte : get_or part (1 + 9 * x.count) 0 ≡ a =
           ap (λ (k : ℕ). get_or part k 0) (sym (add-zero (1 + 9 * x.count))) ∙ sym (first ∙ ap (λ (l : List ℕ). get_or l 0 0) rest_is ∙ get_or-drop (1 + 9 * x.count) part 0 0) in
       (
-        subst (λ (l : List Line). Going (λ done. read_line) whole n (i + 1) l after)
-            (ap (λ (l : List ℕ). lines_of part x ++ (line_of (take 9 l) ∷ [])) rest_is ∙ sym (holds byte))
-            (going_on going few read),
+        going_on going few read (holds byte ∙ ap (λ (l : List ℕ). lines_of part x ++ (line_of (take 9 l) ∷ [])) (sym rest_is)),
         omega (arith, more, counted),
         left ∙ ap (drop 9) here ∙ drop-drop 9 (1 + 9 * i) part ∙ ap (λ (k : ℕ). drop k part) (let z : 1 + 9 * i + 9 ≡ 1 + 9 * (i + 1) = omega arith in z),
       )

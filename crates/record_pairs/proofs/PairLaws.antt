@@ -14,13 +14,11 @@ use Rattle.base.proofs.Lists.{map_below_more}
 use Rattle.model.specs.Execution as model
 use Rattle.model.specs.Execution.{kind_of, is_fence, is_only_store}
 use Rattle.model.specs.Questions.{no_to, found, next, ask, many, question12, question13, question14, read_pair, read_pairs}
-use Rattle.record_decoded.specs.declared.types.Asked.TheVariants.{Pass, Fail}
 use Rattle.record_decoded.specs.declared.types.Instructions.{Instructions}
 use Rattle.record_decoded.specs.declared.types.Pairs.{Pairs}
-use Rattle.record_decoded.specs.Decoded.{instruction_at, instructions_of, pair_at, pair_of, pairs_of}
-use Rattle.record_decoded.specs.Steps.{Answered}
+use Rattle.record_decoded.specs.Decoded.{instruction_at, instructions_of, pair_at, pairs_of}
 use Rattle.record_decoded.proofs.Arrays.{instructions_length, instruction_there}
-use Rattle.record_decoded.proofs.Items.{item_short, item_there, item_first, item_byte, byte_short, byte_there, fails, passes}
+use Rattle.record_decoded.proofs.Items.{item_short, item_there, byte_short, byte_there}
 
 -- question 13
 module _ (x : Instructions) (m n : ℕ) where
@@ -71,39 +69,33 @@ module _ (x : Pairs) (m n : ℕ) where
       ∙ map_below_more (pair_at x) (pair_at x) (x.count - 1) (λ k l. refl))
       ∙ last_pair (map (pair_at x) (below (x.count - 1))) (pair_at x (x.count - 1)) m n
 
--- the questions of the pair at `at`
-module _ (is : List model.Instruction) (done : List (ℕ × ℕ)) (part : List ℕ) (at : ℕ) where
-  pub pair_short : length part - at < 2 → Answered (read_pair is done (drop at part)) part at 2 (Fail 1) (pair_of part at)
+-- the questions of the pair at the front
+module _ (is : List model.Instruction) (done : List (ℕ × ℕ)) (part : List ℕ) where
+  pub pair_short : length part < 2 → read_pair is done part ≡ no_to 1
   unfolding read_pair next
-  pair_short h = fails (rw (item_short 2 at part h))
+  pair_short h = rw (item_short 2 part h)
 
-  module _ (room : at + 2 ≤ length part) (m n : ℕ) (first : m ≡ get_or part at 0) (second : n ≡ get_or part (at + 1) 0) where
-    earlier : get_or (take 2 (drop at part)) 0 0 ≡ m
-    earlier = item_first 2 at part (omega arith) ∙ sym first
-
-    later : get_or (take 2 (drop at part)) 1 0 ≡ n
-    later = item_byte 2 1 at part (omega arith) ∙ sym second
-
-    pub pair_refused : question13 is m n ≡ false → Answered (read_pair is done (drop at part)) part at 2 (Fail 13) (pair_of part at)
+  module _ (room : 2 ≤ length part) (m n : ℕ) (first : get_or (take 2 part) 0 0 ≡ m) (second : get_or (take 2 part) 1 0 ≡ n) where
+    pub pair_refused : question13 is m n ≡ false → read_pair is done part ≡ no_to 13
     unfolding read_pair next ask
-    pair_refused h = fails (rw (item_there 2 at part room, earlier, later, h))
+    pair_refused h = rw (item_there 2 part room, first, second, h)
 
     module _ (thirteen : question13 is m n ≡ true) where
-      pub pair_low : question14 done m n ≡ false → Answered (read_pair is done (drop at part)) part at 2 (Fail 14) (pair_of part at)
+      pub pair_low : question14 done m n ≡ false → read_pair is done part ≡ no_to 14
       unfolding read_pair next ask
-      pair_low h = fails (rw (item_there 2 at part room, earlier, later, thirteen, h))
+      pair_low h = rw (item_there 2 part room, first, second, thirteen, h)
 
-      pub pair_good : question14 done m n ≡ true → Answered (read_pair is done (drop at part)) part at 2 (Pass 2) (pair_of part at)
+      pub pair_good : question14 done m n ≡ true → read_pair is done part ≡ found (m, n) (drop 2 part)
       unfolding read_pair next ask
-      pair_good h = passes (rw (item_there 2 at part room, earlier, later, thirteen, h) (λ i. found (first i, second i) (drop (at + 2) part))) room
+      pair_good h = rw (item_there 2 part room, first, second, thirteen, h)
 
 -- one pair more
-module _ (x r : Pairs) (part : List ℕ) (at : ℕ) (few : x.count < 40)
+module _ (x r : Pairs) (a b : ℕ) (few : x.count < 40)
     (long : length x.earlier ≡ 40) (long_later : length x.later ≡ 40)
     (counted : r.count ≡ x.count + 1)
-    (earlier : r.earlier ≡ set x.earlier x.count (get_or part at 0))
-    (later : r.later ≡ set x.later x.count (get_or part (at + 1) 0)) where
-  pub pair_more : pairs_of r ≡ pairs_of x ++ (pair_of part at ∷ [])
+    (earlier : r.earlier ≡ set x.earlier x.count a)
+    (later : r.later ≡ set x.later x.count b) where
+  pub pair_more : pairs_of r ≡ pairs_of x ++ ((a, b) ∷ [])
   unfolding pairs_of pair_at
   pair_more =
       ap (λ (k : ℕ). map (pair_at r) (below k)) (counted ∙ add-one x.count)
@@ -112,14 +104,14 @@ module _ (x r : Pairs) (part : List ℕ) (at : ℕ) (few : x.count < 40)
     where
       old : (j : ℕ) → j < x.count → pair_at r j ≡ pair_at x j
       old j h = λ i. (
-        (ap (λ (l : List ℕ). get_or l j 0) earlier ∙ get_or-set_other x.earlier x.count j (get_or part at 0) 0 (omega arith)) i,
-        (ap (λ (l : List ℕ). get_or l j 0) later ∙ get_or-set_other x.later x.count j (get_or part (at + 1) 0) 0 (omega arith)) i,
+        (ap (λ (l : List ℕ). get_or l j 0) earlier ∙ get_or-set_other x.earlier x.count j a 0 (omega arith)) i,
+        (ap (λ (l : List ℕ). get_or l j 0) later ∙ get_or-set_other x.later x.count j b 0 (omega arith)) i,
       )
 
-      new : pair_at r x.count ≡ pair_of part at
+      new : pair_at r x.count ≡ (a, b)
       new = λ i. (
-        (ap (λ (l : List ℕ). get_or l x.count 0) earlier ∙ get_or-set_same x.earlier x.count (get_or part at 0) 0 (omega arith)) i,
-        (ap (λ (l : List ℕ). get_or l x.count 0) later ∙ get_or-set_same x.later x.count (get_or part (at + 1) 0) 0 (omega arith)) i,
+        (ap (λ (l : List ℕ). get_or l x.count 0) earlier ∙ get_or-set_same x.earlier x.count a 0 (omega arith)) i,
+        (ap (λ (l : List ℕ). get_or l x.count 0) later ∙ get_or-set_same x.later x.count b 0 (omega arith)) i,
       )
 
 -- the count of pairs, and its question

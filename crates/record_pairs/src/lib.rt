@@ -1,21 +1,14 @@
 // The section of dependence pairs.
 #![tactic(auto)]
 
-ghost use Rattle.std.specs.Prelude.{◌≡◌, [], ◌∷◌, ◌++◌, ◌+◌, ◌<◌, ◌≤◌, length, drop};
-ghost use Rattle.model.specs.Questions.{pair_length, question13, question14, read_pair, read_pairs, many};
+ghost use Rattle.std.specs.Prelude.{◌≡◌, List, [], ◌∷◌, ◌++◌, ℕ, ◌+◌, ◌<◌, ◌≤◌};
+ghost use Rattle.model.specs.Questions.{question13, question14, read_pair, read_pairs};
 ghost use Rattle.record_decoded.specs.Decoded.{instructions_of, pair_of, pairs_of};
-ghost use Rattle.record_decoded.specs.Steps.{Answered, ComesTo};
+ghost use Rattle.record_decoded.specs.Reads.{found_by};
 
 use record_decoded::kind::{is_fence, is_only_store, kind_of};
-use record_decoded::types::{
-    Asked, InstructionNo, Instructions, MOST_PAIRS, PAIR_LENGTH, Pairs, Step, wide,
-};
-
-#[derive(Clone, Copy)]
-pub struct PairsRead {
-    pub step: Step,
-    pub pairs: Pairs,
-}
+use record_decoded::question::Question;
+use record_decoded::types::{InstructionNo, Instructions, MOST_PAIRS, PAIR_LENGTH, Pairs, wide};
 
 pub fn no_pairs() -> Pairs
     ensures { (result.count ≡ 0) × (pairs_of result ≡ []) }
@@ -34,30 +27,15 @@ fn pair_passes(is: Instructions, earlier: InstructionNo, later: InstructionNo) -
 {
     let m = earlier.0;
     let n = later.0;
-    let count = is.count;
-    if n <= m {
+    if n <= m || is.count <= n {
         return false;
     }
-    if count <= n {
-        return false;
-    }
-    let processors = is.processors;
-    if processors[m] != processors[n] {
-        return false;
-    }
-    let kinds = is.kinds;
-    let first = kind_of(kinds[m]);
-    let second = kind_of(kinds[n]);
-    if is_fence(first) {
-        return false;
-    }
-    if is_fence(second) {
-        return false;
-    }
-    if is_only_store(first) {
-        return !is_only_store(second);
-    }
-    true
+    let first = kind_of(is.kinds[m]);
+    let second = kind_of(is.kinds[n]);
+    let one_program = is.processors[m] == is.processors[n];
+    let no_fence = !is_fence(first) && !is_fence(second);
+    let both_stores = is_only_store(first) && is_only_store(second);
+    one_program && no_fence && !both_stores
 }
 
 // Question 14.
@@ -69,102 +47,63 @@ fn pair_above(x: Pairs, earlier: InstructionNo, later: InstructionNo) -> bool
     if k == 0 {
         return true;
     }
-    let last = k - 1;
-    let earliers = x.earlier;
-    let laters = x.later;
-    let m = wide(earliers[last]);
-    let n = wide(laters[last]);
-    if m < earlier.0 {
-        return true;
-    }
-    if m == earlier.0 {
-        return n < later.0;
-    }
-    false
+    let m = wide(x.earlier[k - 1]);
+    let n = wide(x.later[k - 1]);
+    m < earlier.0 || m == earlier.0 && n < later.0
 }
 
-// The questions of the pair at `at`, after those of `x`.
-fn pair_question(part: &[u8], at: usize, is: Instructions, x: Pairs) -> Asked
-    requires { (at ≤ length part.now) × (is.count ≤ 40) × (x.count ≤ 40) }
-    ensures { Answered (read_pair (instructions_of is) (pairs_of x) (drop at part.now)) part.now at pair_length result (pair_of part.now at) }
+// The pair at the front of a part, behind those of `x`, and what is left behind it.
+fn read_pair<'a>(
+    part: &'a [u8],
+    is: Instructions,
+    x: Pairs,
+) -> Result<([u8; PAIR_LENGTH], &'a [u8]), Question>
+    requires { (is.count ≤ 40) × (x.count ≤ 40) }
+    ensures { read_pair (instructions_of is) (pairs_of x) part.now ≡ found_by (λ (p : List ℕ). pair_of p 0) result }
 {
-    if part.len() - at < PAIR_LENGTH {
-        return Asked::Fail(1);
+    let Some((&pair, rest)) = part.split_first_chunk::<PAIR_LENGTH>() else {
+        return Err(Question::Bytes);
+    };
+    let earlier = InstructionNo(wide(pair[0]));
+    let later = InstructionNo(wide(pair[1]));
+    if !pair_passes(is, earlier, later) {
+        return Err(Question::Pair);
     }
-    let m = wide(part[at]);
-    let n = wide(part[at + 1]);
-    if !pair_passes(is, InstructionNo(m), InstructionNo(n)) {
-        return Asked::Fail(13);
+    if !pair_above(x, earlier, later) {
+        return Err(Question::PairOrder);
     }
-    if !pair_above(x, InstructionNo(m), InstructionNo(n)) {
-        return Asked::Fail(14);
-    }
-    Asked::Pass(PAIR_LENGTH)
+    Ok((pair, rest))
 }
 
-// One pair more, from the two bytes at `at`.
-fn with_pair(x: Pairs, part: &[u8], at: usize) -> Pairs
-    requires { (x.count < 40) × (at + pair_length ≤ length part.now) }
-    ensures { (result.count ≡ x.count + 1) × (pairs_of result ≡ pairs_of x ++ (pair_of part.now at ∷ [])) }
+// One pair more, by its two bytes.
+fn with_pair(x: Pairs, pair: [u8; PAIR_LENGTH]) -> Pairs
+    requires { x.count < 40 }
+    ensures { (result.count ≡ x.count + 1) × (pairs_of result ≡ pairs_of x ++ (pair_of pair 0 ∷ [])) }
 {
-    let k = x.count;
-    let mut earlier = x.earlier;
-    let mut later = x.later;
-    earlier[k] = part[at];
-    later[k] = part[at + 1];
-    let count = k + 1;
-    Pairs {
-        count,
-        earlier,
-        later,
-    }
+    let mut pairs = x;
+    let [earlier, later] = pair;
+    pairs.earlier[x.count] = earlier;
+    pairs.later[x.count] = later;
+    pairs.count = x.count + 1;
+    pairs
 }
 
-// So many pairs, after their count.
-fn pair_entries(part: &[u8], n: u8, is: Instructions) -> PairsRead
-    requires { (n ≤ 40) × (1 ≤ length part.now) × (is.count ≤ 40) }
-    ensures { ComesTo (many (read_pair (instructions_of is)) n [] (drop 1 part.now)) part.now result.step (pairs_of result.pairs) }
-{
-    let mut pairs = no_pairs();
-    let mut at = 1;
-    for i in 0..n {
-        let asked = pair_question(part, at, is, pairs);
-        match asked {
-            Asked::Fail(q) => {
-                return PairsRead {
-                    step: Step::Refused(q),
-                    pairs,
-                };
-            }
-            Asked::Pass(size) => {
-                pairs = with_pair(pairs, part, at);
-                at = at + size;
-            }
-        }
-    }
-    PairsRead {
-        step: Step::Next(at),
-        pairs,
-    }
-}
-
-// The pairs, from their count on.
-pub fn read_pairs(part: &[u8], is: Instructions) -> PairsRead
+// The pairs, from their count on, and what is left behind them.
+pub fn read_pairs<'a>(part: &'a [u8], is: Instructions) -> Result<(Pairs, &'a [u8]), Question>
     requires { is.count ≤ 40 }
-    ensures { ComesTo (read_pairs (instructions_of is) part.now) part.now result.step (pairs_of result.pairs) }
+    ensures { read_pairs (instructions_of is) part.now ≡ found_by pairs_of result }
 {
-    if part.len() < 1 {
-        return PairsRead {
-            step: Step::Refused(1),
-            pairs: no_pairs(),
-        };
-    }
-    let n = part[0];
+    let Some((&n, mut rest)) = part.split_first() else {
+        return Err(Question::Bytes);
+    };
     if MOST_PAIRS < n {
-        return PairsRead {
-            step: Step::Refused(12),
-            pairs: no_pairs(),
-        };
+        return Err(Question::Pairs);
     }
-    pair_entries(part, n, is)
+    let mut pairs = no_pairs();
+    for _ in 0..n {
+        let (pair, after) = read_pair(rest, is, pairs)?;
+        pairs = with_pair(pairs, pair);
+        rest = after;
+    }
+    Ok((pairs, rest))
 }
