@@ -3,32 +3,35 @@ use Prim.Native.Nat.{ℕ, zero, suc, ◌+◌, ◌-◌, ◌*◌, ◌/◌, ◌%◌
 use native.Mathlib.Omega.{arith}
 use mathlib.Core.Path.{◌≡◌, refl, sym, ap, ap₂, ◌∙◌}
 use mathlib.Core.Bool.{Bool, true, false, cond, ◌&&◌, ◌||◌, or-false, false≢true}
-use mathlib.Core.List.{List, ◌++◌}
+use mathlib.Core.List.{List, [], ◌∷◌, ◌++◌}
+use Rattle.std.specs.List.{list_all, list_any}
 use lib.ListN.{length, get_or, take, drop, length-take, length-drop, drop_of_length-le}
-use lib.Seq.{length-take-le, take-suc, take-add, drop-drop}
+use lib.Seq.{length-take-le, take-suc, take-add, get_or-take, drop-drop}
 use lib.Dec.{eqb, leb, ltb}
 use borrow.Author.Tests.{le-leb, lt-leb, ltb-true, eq-eqb, ne_eqb}
 use Rattle.base.specs.Lists.{all, member}
 use Rattle.base.specs.Below.{all_below, any_below}
 use Rattle.base.proofs.Bools.{eqb_swap}
+use Rattle.base.proofs.Chains.{all_list}
 use Rattle.base.proofs.Lists.{member_in, member_append, all_member}
 use Rattle.base.proofs.Tests.{all_same, all_elements, all_count}
 use Rattle.model.specs.Execution.{Kind, ld, ld_acq, st, st_rel, mf, sem_acq, sem_rel, Attribute, WC, attribute_number, Instruction, kind_of, is_fence, is_semaphore, lines_from}
 use Rattle.model.proofs.Accepted.{data_within}
-use Rattle.model.specs.Questions.{no_to, found, question6, question7, question8, question26, question27, question9, sizes_of, more_length, written_from, instruction_of, read_instruction, next, item, ask}
-use Rattle.record_decoded.specs.declared.types.Asked.{Asked}
-use Rattle.record_decoded.specs.declared.types.Asked.TheVariants.{Pass, Fail}
-use Rattle.record_decoded.specs.Steps.{EntryAnswered}
-use Rattle.record_decoded.proofs.DataBytes.{drop_take, take_less}
-use Rattle.record_decoded.proofs.Items.{item_short, item_there, item_first, item_byte, fails, passes}
+use Rattle.model.specs.Questions.{Found, no_to, found, question6, question7, question8, question26, question27, question9, sizes_of, more_length, written_from, instruction_of, read_instruction, next, item, ask}
+use Rattle.record_decoded.specs.Reads.{Entry}
+use Rattle.record_decoded.proofs.Items.{item_short, item_there}
 
--- one of the first n elements, by index
-member_by_index : (l : List ℕ) (n a : ℕ) → n ≤ length l → any_below n (λ i. eqb (get_or l i 0) a) ≡ member (take n l) a
-unfolding any_below member
-member_by_index l zero a h = refl
-member_by_index l (suc n) a h =
-    ap (λ (t : Bool). t || eqb (get_or l n 0) a) (member_by_index l n a (omega arith))
-    ∙ sym (ap (λ (m : List ℕ). member m a) (take-suc l n 0 (omega arith)) ∙ member_append (take n l) (get_or l n 0) a)
+-- std's test for an element
+pub member_of : (l : List ℕ) (a : ℕ) → list_any (λ x. eqb x a) l ≡ member l a
+unfolding member
+member_of [] a = refl
+member_of (x ∷ l) a = ap (λ (t : Bool). eqb x a || t) (member_of l a)
+
+-- the same test by another name
+pub all_alike : (p q : ℕ → Bool) → ((b : ℕ) → p b ≡ q b) → (l : List ℕ) → all p l ≡ all q l
+unfolding all
+all_alike p q e [] = refl
+all_alike p q e (x ∷ l) = ap₂ (λ (s t : Bool). s && t) (e x) (all_alike p q e l)
 
 -- question 7
 module _ (k : Kind) (size : ℕ) where
@@ -37,11 +40,10 @@ module _ (k : Kind) (size : ℕ) where
   fence_size h = rw h (sym (or-false (eqb 0 size) ∙ eqb_swap 0 size))
 
   -- the table is the sizes of a load; a semaphore has the first four of them, any other access all five
-  pub size_by_index : (count : ℕ) → is_fence k ≡ false → count ≡ cond (is_semaphore k) 4 5 → count ≤ 5
-      → any_below count (λ i. eqb (get_or (sizes_of ld) i 0) size) ≡ question7 k size
+  pub size_by_count : (count : ℕ) → is_fence k ≡ false → count ≡ cond (is_semaphore k) 4 5
+      → member (take count (sizes_of ld)) size ≡ question7 k size
   unfolding question7
-  size_by_index count h c few =
-      member_by_index (sizes_of ld) count size few ∙ ap (λ (l : List ℕ). member l size) (ap (λ (n : ℕ). take n (sizes_of ld)) c ∙ first k h)
+  size_by_count count h c = ap (λ (l : List ℕ). member l size) (ap (λ (n : ℕ). take n (sizes_of ld)) c ∙ first k h)
     where
       first : (k : Kind) → is_fence k ≡ false → take (cond (is_semaphore k) 4 5) (sizes_of ld) ≡ sizes_of k
       first ld h = refl
@@ -86,133 +88,108 @@ unfolding question27 lines_from
 lines_by_index lines size address first n number f c m =
     rw (m, c, f) (all_count (λ k. eqb (attribute_number (get_or lines k WC)) (attribute_number (get_or lines (address / 8) WC))) (address / 8) ((size + 7) / 8))
 
--- bytes that are zero, by index
-pub zeros_by_index : (part : List ℕ) (from n : ℕ) → from + n ≤ length part
-    → all_below n (λ i. eqb 0 (get_or part (from + i) 0)) ≡ all (eqb 0) (take n (drop from part))
-zeros_by_index part from n room =
-    all_same (λ i. eqb 0 (get_or part (from + i) 0)) (λ i. eqb 0 (get_or (take n (drop from part)) i 0)) n
-    (λ i h. ap (eqb 0) (sym (item_byte n i from part h)))
-    ∙ ap (λ (m : ℕ). all_below m (λ i. eqb 0 (get_or (take n (drop from part)) i 0)))
-    (sym (length-take-le n (drop from part) (omega (arith, length-drop from part))))
-    ∙ all_elements (eqb 0) 0 (take n (drop from part))
-
--- those of some bytes that lie past the size
-module _ (part : List ℕ) (from room size : ℕ) where
-  pub none_spare : room < size → true ≡ all (eqb 0) (drop size (take room (drop from part)))
-  unfolding all
-  none_spare h = ap (all (eqb 0)) (sym (drop_of_length-le (take room (drop from part)) {i = size} (omega (arith, length-take room (drop from part)))))
-
-  pub some_spare : size ≤ room → all (eqb 0) (take (room - size) (drop (from + size) part)) ≡ all (eqb 0) (drop size (take room (drop from part)))
-  some_spare h =
-      let both : room ≡ size + (room - size) = omega arith in
-      ap (all (eqb 0)) (sym (
-      ap (λ (k : ℕ). drop size (take k (drop from part))) both
-      ∙ drop_take size (room - size) (drop from part)
-      ∙ ap (take (room - size)) (drop-drop size from part)))
-
 -- question 9
-module _ (part : List ℕ) (from more size : ℕ) where
-  spare_bytes : (all (eqb 0) (drop size (take 8 (drop from part))) && all (eqb 0) (drop size (take more (drop (from + 8) part))))
-      ≡ question9 size (take (8 + more) (drop from part))
-  unfolding question9
-  spare_bytes =
-      ap₂ (λ (l m : List ℕ). all (eqb 0) (drop size l) && all (eqb 0) (drop size m))
-      (sym (take_less 8 (8 + more) (drop from part) (omega arith)))
-      (sym (drop_take 8 more (drop from part) ∙ ap (take more) (drop-drop 8 from part)))
+pub both_spare : (size : ℕ) (bytes : List ℕ)
+    → (list_all (λ b. eqb b 0) (drop size (take 8 bytes)) && list_all (λ b. eqb b 0) (drop size (drop 8 bytes))) ≡ question9 size bytes
+unfolding question9
+both_spare size bytes = ap₂ (λ (s t : Bool). s && t) (zeros (drop size (take 8 bytes))) (zeros (drop size (drop 8 bytes)))
+  where
+    zeros : (l : List ℕ) → list_all (λ b. eqb b 0) l ≡ all (eqb 0) l
+    zeros l = all_list (λ b. eqb b 0) l ∙ all_alike (λ b. eqb b 0) (eqb 0) (λ b. eqb_swap b 0) l
 
-  pub both_spare : all (eqb 0) (drop size (take 8 (drop from part))) ≡ true
-      → all (eqb 0) (drop size (take more (drop (from + 8) part))) ≡ question9 size (take (8 + more) (drop from part))
-  both_spare h = rw (← spare_bytes, h)
+-- the questions in their order, of the bytes at the front of a part
+module _ (part : List ℕ) (lines : List Attribute) (count : ℕ) (counted : length lines ≡ count) (processors p : ℕ) (done : List Instruction) where
+  abbrev first : List ℕ
+  first = take 11 part
 
-  pub some_left : all (eqb 0) (drop size (take 8 (drop from part))) ≡ false → false ≡ question9 size (take (8 + more) (drop from part))
-  some_left h = rw (← spare_bytes, h)
+  abbrev pub size : ℕ
+  size = get_or part 2 0
 
--- the questions in their order, of the bytes from `at` on
-module _ (part : List ℕ) (at : ℕ) (lines : List Attribute) (processors p : ℕ) (done : List Instruction) where
-  abbrev entry : List ℕ
-  entry = take 11 (drop at part)
+  abbrev pub reading : Found Instruction
+  reading = read_instruction processors lines p done part
 
-  abbrev size : ℕ
-  size = get_or part (at + 2) 0
-
-  abbrev pub Asks : Asked → Type 0
-  Asks r = EntryAnswered processors lines p done part at r
-
-  -- a question that fails
-  refused : {q : ℕ} → read_instruction processors lines p done (drop at part) ≡ no_to q → Asks (Fail q)
-  refused h = record { answered = fails h; data_within = λ n e. let z : ◌≡◌ {A = ℕ} 0 1 = cc in absurd (omega arith) }
-
-  pub entry_short : length part - at < 11 → Asks (Fail 1)
+  pub entry_short : length part < 11 → reading ≡ no_to 1
   unfolding read_instruction next
-  entry_short h = refused (rw (item_short 11 at part h))
+  entry_short h = rw (item_short 11 part h)
 
-  module _ (room : at + 11 ≤ length part) where
-    byte0 : get_or entry 0 0 ≡ get_or part at 0
-    byte0 = item_first 11 at part (omega arith)
+  module _ (room : 11 ≤ length part) where
+    byte0 : get_or first 0 0 ≡ get_or part 0 0
+    byte0 = get_or-take 11 part 0 0 (omega arith)
 
-    byte1 : get_or entry 1 0 ≡ get_or part (at + 1) 0
-    byte1 = item_byte 11 1 at part (omega arith)
+    byte1 : get_or first 1 0 ≡ get_or part 1 0
+    byte1 = get_or-take 11 part 1 0 (omega arith)
 
-    byte2 : get_or entry 2 0 ≡ size
-    byte2 = item_byte 11 2 at part (omega arith)
+    byte2 : get_or first 2 0 ≡ size
+    byte2 = get_or-take 11 part 2 0 (omega arith)
 
-    pub entry_kind : 6 < get_or part at 0 → Asks (Fail 6)
+    pub entry_kind : 6 < get_or part 0 0 → reading ≡ no_to 6
     unfolding read_instruction next ask question6
-    entry_kind h = refused (rw (item_there 11 at part room, byte0, lt-leb (get_or part at 0) 6 h))
+    entry_kind h = rw (item_there 11 part room, byte0, lt-leb (get_or part 0 0) 6 h)
 
-    module _ (known : get_or part at 0 ≤ 6) (k : Kind) (is : k ≡ kind_of (get_or part at 0)) where
-      six : question6 (get_or entry 0 0) ≡ true
+    module _ (known : get_or part 0 0 ≤ 6) (k : Kind) (is : k ≡ kind_of (get_or part 0 0)) where
+      six : question6 (get_or first 0 0) ≡ true
       unfolding question6
-      six = rw byte0 (le-leb (get_or part at 0) 6 known)
+      six = rw byte0 (le-leb (get_or part 0 0) 6 known)
 
-      kind : kind_of (get_or entry 0 0) ≡ k
+      kind : kind_of (get_or first 0 0) ≡ k
       kind = ap kind_of byte0 ∙ sym is
 
-      pub entry_size : question7 k size ≡ false → Asks (Fail 7)
+      pub entry_size : question7 k size ≡ false → reading ≡ no_to 7
       unfolding read_instruction next ask
-      entry_size h = refused (rw (item_there 11 at part room, six, kind, byte2, h))
+      entry_size h = rw (item_there 11 part room, six, kind, byte2, h)
 
       module _ (seven : question7 k size ≡ true) where
-        pub entry_cut : length part - at < 11 + more_length k size → Asks (Fail 1)
+        pub entry_cut : length part < 11 + more_length k size → reading ≡ no_to 1
         unfolding read_instruction next ask
-        entry_cut h = refused (rw (item_there 11 at part room, six, kind, byte2, seven, item_short (more_length k size) (at + 11) part (omega arith)))
+        entry_cut h = rw (item_there 11 part room, six, kind, byte2, seven, item_short (more_length k size) (drop 11 part) (omega (arith, length-drop 11 part)))
 
-        module _ (whole : at + (11 + more_length k size) ≤ length part) where
-          further : item (more_length k size) (drop (at + 11) part) ≡ found (take (more_length k size) (drop (at + 11) part)) (drop (at + 11 + more_length k size) part)
-          further = item_there (more_length k size) (at + 11) part (omega arith)
+        module _ (whole : 11 + more_length k size ≤ length part) where
+          abbrev pub entry : List ℕ
+          entry = take (11 + more_length k size) part
 
-          pub entry_address : question8 (length lines) k size (get_or part (at + 1) 0) ≡ false → Asks (Fail 8)
+          further : item (more_length k size) (drop 11 part) ≡ found (take (more_length k size) (drop 11 part)) (drop (11 + more_length k size) part)
+          further =
+              item_there (more_length k size) (drop 11 part) (omega (arith, length-drop 11 part))
+              ∙ ap (found (take (more_length k size) (drop 11 part))) (drop-drop (more_length k size) 11 part)
+
+          pub entry_address : question8 count k size (get_or part 1 0) ≡ false → reading ≡ no_to 8
           unfolding read_instruction next ask
-          entry_address h = refused (rw (item_there 11 at part room, six, kind, byte2, byte1, seven, further, h))
+          entry_address h = rw (item_there 11 part room, six, kind, byte2, byte1, seven, further, counted, h)
 
-          module _ (eight : question8 (length lines) k size (get_or part (at + 1) 0) ≡ true) where
-            pub entry_line : question26 lines k (get_or part (at + 1) 0) ≡ false → Asks (Fail 26)
+          module _ (eight : question8 count k size (get_or part 1 0) ≡ true) where
+            pub entry_line : question26 lines k (get_or part 1 0) ≡ false → reading ≡ no_to 26
             unfolding read_instruction next ask
-            entry_line h = refused (rw (item_there 11 at part room, six, kind, byte2, byte1, seven, further, eight, h))
+            entry_line h = rw (item_there 11 part room, six, kind, byte2, byte1, seven, further, counted, eight, h)
 
-            module _ (wb : question26 lines k (get_or part (at + 1) 0) ≡ true) where
-              pub entry_lines : question27 lines size (get_or part (at + 1) 0) ≡ false → Asks (Fail 27)
+            module _ (wb : question26 lines k (get_or part 1 0) ≡ true) where
+              pub entry_lines : question27 lines size (get_or part 1 0) ≡ false → reading ≡ no_to 27
               unfolding read_instruction next ask
-              entry_lines h = refused (rw (item_there 11 at part room, six, kind, byte2, byte1, seven, further, eight, wb, h))
+              entry_lines h = rw (item_there 11 part room, six, kind, byte2, byte1, seven, further, counted, eight, wb, h)
 
-              module _ (same : question27 lines size (get_or part (at + 1) 0) ≡ true) where
+              module _ (same : question27 lines size (get_or part 1 0) ≡ true) where
                 -- both items together
-                joined : entry ++ take (more_length k size) (drop (at + 11) part) ≡ take (11 + more_length k size) (drop at part)
-                joined = sym (take-add 11 (more_length k size) (drop at part) ∙ ap (λ (l : List ℕ). entry ++ take (more_length k size) l) (drop-drop 11 at part))
+                joined : first ++ take (more_length k size) (drop 11 part) ≡ entry
+                joined = sym (take-add 11 (more_length k size) part)
 
-                data_there : drop 3 (entry ++ take (more_length k size) (drop (at + 11) part)) ≡ take (8 + more_length k size) (drop (at + 3) part)
-                data_there =
-                    let eleven : 11 + more_length k size ≡ 3 + (8 + more_length k size) = omega arith in
-                    ap (drop 3) joined ∙ ap (λ (n : ℕ). drop 3 (take n (drop at part))) eleven ∙ drop_take 3 (8 + more_length k size) (drop at part) ∙ ap (take (8 + more_length k size)) (drop-drop 3 at part)
-
-                pub entry_data : question9 size (take (8 + more_length k size) (drop (at + 3) part)) ≡ false → Asks (Fail 9)
+                pub entry_data : question9 size (drop 3 entry) ≡ false → reading ≡ no_to 9
                 unfolding read_instruction next ask
-                entry_data h = refused (rw (item_there 11 at part room, six, kind, byte2, byte1, seven, further, eight, wb, same, data_there, h))
+                entry_data h = rw (item_there 11 part room, six, kind, byte2, byte1, seven, further, counted, eight, wb, same, joined, h)
 
-                pub entry_passes : question9 size (take (8 + more_length k size) (drop (at + 3) part)) ≡ true → Asks (Pass (11 + more_length k size))
+                pub entry_passes : question9 size (drop 3 entry) ≡ true → reading ≡ found (instruction_of processors p done entry) (drop (11 + more_length k size) part)
                 unfolding read_instruction next ask
-                entry_passes h = record {
-                  answered = rw (← is) (passes (rw (item_there 11 at part room, six, kind, byte2, byte1, seven, further, eight, wb, same, data_there, h, joined)
-                      (ap (λ (n : ℕ). found (instruction_of processors p done (take (11 + more_length k size) (drop at part))) (drop n part)) (let z : at + 11 + more_length k size ≡ at + (11 + more_length k size) = omega arith in z))) whole);
-                  data_within = λ n e. omega (arith, data_within k size seven, ap written_from is, ap (λ (j : Kind). more_length j size) is);
-                }
+                entry_passes h = rw (item_there 11 part room, six, kind, byte2, byte1, seven, further, counted, eight, wb, same, joined, h)
+
+-- the entry that was read
+pub entry_is : (part : List ℕ) (k : Kind) → k ≡ kind_of (get_or part 0 0) → question7 k (get_or part 2 0) ≡ true → 11 + more_length k (get_or part 2 0) ≤ length part
+    → Entry (take (11 + more_length k (get_or part 2 0)) part)
+entry_is part k is seven whole =
+    let size = get_or part 2 0 in
+    let n : ℕ = 11 + more_length k size in
+    let long : length (take n part) ≡ n = length-take-le n part whole in
+    let byte0 : get_or (take n part) 0 0 ≡ get_or part 0 0 = get_or-take n part 0 0 (omega arith) in
+    let byte2 : get_or (take n part) 2 0 ≡ size = get_or-take n part 2 0 (omega arith) in
+    let kind : kind_of (get_or (take n part) 0 0) ≡ k = ap kind_of byte0 ∙ sym is in
+    record {
+      whole = long ∙ ap₂ (λ (j : Kind) (s : ℕ). 11 + more_length j s) (sym kind) (sym byte2);
+      data_within = omega (arith, long, data_within k size seven, ap written_from kind, byte2);
+    }

@@ -17,10 +17,9 @@ use Rattle.model.proofs.Accepted.{more_few}
 use Rattle.model.specs.Questions.{more_length, written_from, seen_of, wrote_of, instruction_of}
 use Rattle.record_decoded.specs.declared.types.Instructions.{Instructions}
 use Rattle.record_decoded.specs.Decoded.{data_of, instruction_at, instructions_of}
-use Rattle.record_decoded.specs.Steps.{entry_at, EntryThere, InstructionMore}
+use Rattle.record_decoded.specs.Reads.{Entry, InstructionMore}
 use Rattle.record_decoded.proofs.Arrays.{instructions_length}
 use Rattle.record_decoded.proofs.DataBytes.{drop_take, take_less, same_part, data_new, data_old}
-use Rattle.record_decoded.proofs.Items.{item_first, item_byte}
 
 pub few_roles : (p : ℕ) (k : model.Kind) → p ≤ 8 → length (roles p k) ≤ 10
 few_roles p k h =
@@ -39,62 +38,50 @@ pub record Sized (x : Instructions) : Type 0 where
   pub firsts : length x.firsts ≡ 40
   pub bytes : length x.bytes ≡ 640
 
--- the arrays with the instruction at `at` added
-abbrev pub added : Instructions → List ℕ → ℕ → ℕ → ℕ → List ℕ → Instructions
-added x part at p n bytes = record {
+-- the arrays with the instruction of an entry added
+abbrev pub added : Instructions → List ℕ → ℕ → ℕ → List ℕ → Instructions
+added x entry p n bytes = record {
   count = x.count + 1;
   operations = n;
   processors = set x.processors x.count p;
-  kinds = set x.kinds x.count (get_or part at 0);
-  addresses = set x.addresses x.count (get_or part (at + 1) 0);
-  sizes = set x.sizes x.count (get_or part (at + 2) 0);
+  kinds = set x.kinds x.count (get_or entry 0 0);
+  addresses = set x.addresses x.count (get_or entry 1 0);
+  sizes = set x.sizes x.count (get_or entry 2 0);
   firsts = set x.firsts x.count x.operations;
   bytes = bytes;
 }
 
-module _ (processors : ℕ) (x : Instructions) (part : List ℕ) (at p n : ℕ) (bytes : List ℕ) (sized : Sized x)
-    (few : x.count < 40) (there : EntryThere part at)
+module _ (processors : ℕ) (x : Instructions) (entry : List ℕ) (p n : ℕ) (bytes : List ℕ) (sized : Sized x)
+    (few : x.count < 40) (there : Entry entry)
     (counted : x.operations ≡ operation_count processors (instructions_of x))
-    (copied : bytes ≡ paste x.bytes (16 * x.count) (drop (at + 3) part) (8 + more_length (kind_of (get_or part at 0)) (get_or part (at + 2) 0))) where
+    (copied : bytes ≡ paste x.bytes (16 * x.count) (drop 3 entry) (8 + more_length (kind_of (get_or entry 0 0)) (get_or entry 2 0))) where
   abbrev r : Instructions
-  r = added x part at p n bytes
+  r = added x entry p n bytes
 
   abbrev k : model.Kind
-  k = kind_of (get_or part at 0)
+  k = kind_of (get_or entry 0 0)
 
   abbrev size : ℕ
-  size = get_or part (at + 2) 0
-
-  abbrev entry : List ℕ
-  entry = entry_at part at
+  size = get_or entry 2 0
 
   -- its data bytes, as they are pasted
   data_there : take (8 + more_length k size) (data_of bytes x.count) ≡ take (8 + more_length k size) (drop 3 entry)
   data_there =
-      let eleven : 11 + more_length k size ≡ 3 + (8 + more_length k size) = omega arith in
       ap (λ (l : List ℕ). take (8 + more_length k size) (data_of l x.count)) copied
-      ∙ data_new x.bytes x.count (drop (at + 3) part) (8 + more_length k size) (omega (arith, more_few k size)) (omega (arith, sized.bytes)) (omega (arith, length-drop (at + 3) part, there.0))
-      ∙ sym (ap (take (8 + more_length k size)) (ap (λ (n : ℕ). drop 3 (take n (drop at part))) eleven ∙ drop_take 3 (8 + more_length k size) (drop at part) ∙ ap (take (8 + more_length k size)) (drop-drop 3 at part))
-      ∙ take_less (8 + more_length k size) (8 + more_length k size) (drop (at + 3) part) (omega arith))
+      ∙ data_new x.bytes x.count (drop 3 entry) (8 + more_length k size) (omega (arith, more_few k size)) (omega (arith, sized.bytes)) (omega (arith, length-drop 3 entry, there.whole))
 
   -- what is seen and what is written lie within them
-  seen_there : seen_of k (get_or part (at + 2) 0) (data_of bytes x.count) ≡ seen_of k (get_or part (at + 2) 0) (drop 3 entry)
+  seen_there : seen_of k (get_or entry 2 0) (data_of bytes x.count) ≡ seen_of k (get_or entry 2 0) (drop 3 entry)
   unfolding seen_of
   seen_there =
       ap (λ (l : List ℕ). cond (is_load k) l [])
-      (same_part 0 (get_or part (at + 2) 0) (8 + more_length k size) (data_of bytes x.count) (drop 3 entry) (omega (arith, there.1)) data_there)
+      (same_part 0 (get_or entry 2 0) (8 + more_length k size) (data_of bytes x.count) (drop 3 entry) (omega (arith, there.data_within)) data_there)
 
-  wrote_there : wrote_of k (get_or part (at + 2) 0) (data_of bytes x.count) ≡ wrote_of k (get_or part (at + 2) 0) (drop 3 entry)
+  wrote_there : wrote_of k (get_or entry 2 0) (data_of bytes x.count) ≡ wrote_of k (get_or entry 2 0) (drop 3 entry)
   unfolding wrote_of
   wrote_there =
       same_if (is_store k) (λ t.
-      same_part (written_from k) (get_or part (at + 2) 0) (8 + more_length k size) (data_of bytes x.count) (drop 3 entry) (omega (arith, there.1)) data_there)
-
-  first_is : get_or entry 0 0 ≡ get_or part at 0
-  first_is = item_first (11 + more_length k size) at part (omega arith)
-
-  size_is : get_or entry 2 0 ≡ get_or part (at + 2) 0
-  size_is = item_byte (11 + more_length k size) 2 at part (omega arith)
+      same_part (written_from k) (get_or entry 2 0) (8 + more_length k size) (data_of bytes x.count) (drop 3 entry) (omega (arith, there.data_within)) data_there)
 
   instruction_new : instruction_at r x.count ≡ instruction_of processors p (instructions_of x) entry
   unfolding instruction_at instruction_of
@@ -102,20 +89,18 @@ module _ (processors : ℕ) (x : Instructions) (part : List ℕ) (at p n : ℕ) 
     number = sym (instructions_length x) i;
     first = (get_or-set_same x.firsts x.count x.operations 0 (omega (arith, sized.firsts)) ∙ counted) i;
     processor = get_or-set_same x.processors x.count p 0 (omega (arith, sized.processors)) i;
-    kind = (kind ∙ ap kind_of (sym first_is)) i;
-    address = (get_or-set_same x.addresses x.count (get_or part (at + 1) 0) 0 (omega (arith, sized.addresses)) ∙ sym (item_byte (11 + more_length k size) 1 at part (omega arith))) i;
-    size = (size_set ∙ sym size_is) i;
-    seen = (ap₂ (λ (a : model.Kind) (n : ℕ). seen_of a n (data_of bytes x.count)) kind size_set ∙ seen_there
-        ∙ sym (ap₂ (λ (a n : ℕ). seen_of (kind_of a) n (drop 3 entry)) first_is size_is)) i;
-    wrote = (ap₂ (λ (a : model.Kind) (n : ℕ). wrote_of a n (data_of bytes x.count)) kind size_set ∙ wrote_there
-        ∙ sym (ap₂ (λ (a n : ℕ). wrote_of (kind_of a) n (drop 3 entry)) first_is size_is)) i;
+    kind = kind i;
+    address = get_or-set_same x.addresses x.count (get_or entry 1 0) 0 (omega (arith, sized.addresses)) i;
+    size = size_set i;
+    seen = (ap₂ (λ (a : model.Kind) (n : ℕ). seen_of a n (data_of bytes x.count)) kind size_set ∙ seen_there) i;
+    wrote = (ap₂ (λ (a : model.Kind) (n : ℕ). wrote_of a n (data_of bytes x.count)) kind size_set ∙ wrote_there) i;
   }
     where
-      kind : kind_of (get_or (set x.kinds x.count (get_or part at 0)) x.count 0) ≡ k
-      kind = ap kind_of (get_or-set_same x.kinds x.count (get_or part at 0) 0 (omega (arith, sized.kinds)))
+      kind : kind_of (get_or (set x.kinds x.count (get_or entry 0 0)) x.count 0) ≡ k
+      kind = ap kind_of (get_or-set_same x.kinds x.count (get_or entry 0 0) 0 (omega (arith, sized.kinds)))
 
-      size_set : get_or (set x.sizes x.count (get_or part (at + 2) 0)) x.count 0 ≡ get_or part (at + 2) 0
-      size_set = get_or-set_same x.sizes x.count (get_or part (at + 2) 0) 0 (omega (arith, sized.sizes))
+      size_set : get_or (set x.sizes x.count (get_or entry 2 0)) x.count 0 ≡ get_or entry 2 0
+      size_set = get_or-set_same x.sizes x.count (get_or entry 2 0) 0 (omega (arith, sized.sizes))
 
   instruction_old : (j : ℕ) → j < x.count → instruction_at r j ≡ instruction_at x j
   unfolding instruction_at
@@ -124,22 +109,22 @@ module _ (processors : ℕ) (x : Instructions) (part : List ℕ) (at p n : ℕ) 
     first = get_or-set_other x.firsts x.count j x.operations 0 (omega arith) i;
     processor = get_or-set_other x.processors x.count j p 0 (omega arith) i;
     kind = kind i;
-    address = get_or-set_other x.addresses x.count j (get_or part (at + 1) 0) 0 (omega arith) i;
+    address = get_or-set_other x.addresses x.count j (get_or entry 1 0) 0 (omega arith) i;
     size = size_set i;
     seen = seen_of (kind i) (size_set i) (copy i);
     wrote = wrote_of (kind i) (size_set i) (copy i);
   }
     where
-      kind : kind_of (get_or (set x.kinds x.count (get_or part at 0)) j 0) ≡ kind_of (get_or x.kinds j 0)
-      kind = ap kind_of (get_or-set_other x.kinds x.count j (get_or part at 0) 0 (omega arith))
+      kind : kind_of (get_or (set x.kinds x.count (get_or entry 0 0)) j 0) ≡ kind_of (get_or x.kinds j 0)
+      kind = ap kind_of (get_or-set_other x.kinds x.count j (get_or entry 0 0) 0 (omega arith))
 
-      size_set : get_or (set x.sizes x.count (get_or part (at + 2) 0)) j 0 ≡ get_or x.sizes j 0
-      size_set = get_or-set_other x.sizes x.count j (get_or part (at + 2) 0) 0 (omega arith)
+      size_set : get_or (set x.sizes x.count (get_or entry 2 0)) j 0 ≡ get_or x.sizes j 0
+      size_set = get_or-set_other x.sizes x.count j (get_or entry 2 0) 0 (omega arith)
 
       copy : data_of bytes j ≡ data_of x.bytes j
       copy =
           ap (λ (l : List ℕ). data_of l j) copied
-          ∙ data_old x.bytes x.count (drop (at + 3) part) (8 + more_length k size) (omega (arith, more_few k size)) (omega (arith, sized.bytes)) j h
+          ∙ data_old x.bytes x.count (drop 3 entry) (8 + more_length k size) (omega (arith, more_few k size)) (omega (arith, sized.bytes)) j h
 
   holds : instructions_of r ≡ instructions_of x ++ (instruction_of processors p (instructions_of x) entry ∷ [])
   unfolding instructions_of
@@ -148,7 +133,7 @@ module _ (processors : ℕ) (x : Instructions) (part : List ℕ) (at p n : ℕ) 
       ∙ map_below_more (instruction_at r) (instruction_at x) x.count instruction_old
       ∙ ap (λ (i : model.Instruction). instructions_of x ++ (i ∷ [])) instruction_new
 
-  pub instruction_more : processors ≤ 8 → x.operations ≤ 10 * x.count → n ≡ x.operations + length (roles processors (kind_of (get_or part at 0)))
+  pub instruction_more : processors ≤ 8 → x.operations ≤ 10 * x.count → n ≡ x.operations + length (roles processors (kind_of (get_or entry 0 0)))
       → InstructionMore processors x r (instruction_of processors p (instructions_of x) entry)
   unfolding instruction_of
   instruction_more small bounded operations = record {
@@ -157,7 +142,6 @@ module _ (processors : ℕ) (x : Instructions) (part : List ℕ) (at p n : ℕ) 
     counted = operations ∙ sym (
         ap (operation_count processors) holds
         ∙ count_more processors (instructions_of x) (instruction_of processors p (instructions_of x) entry)
-        ∙ ap (λ (m : ℕ). m + length (roles processors (kind_of (get_or entry 0 0)))) (sym counted)
-        ∙ ap (λ (k : ℕ). x.operations + length (roles processors (kind_of k))) first_is);
-    bounded = omega (arith, few_roles processors (kind_of (get_or part at 0)) small);
+        ∙ ap (λ (m : ℕ). m + length (roles processors (kind_of (get_or entry 0 0)))) (sym counted));
+    bounded = omega (arith, few_roles processors (kind_of (get_or entry 0 0)) small);
   }

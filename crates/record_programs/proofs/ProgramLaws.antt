@@ -8,12 +8,9 @@ use lib.ListN.{length, get_or, drop, length-drop}
 use lib.Seq.{drop-drop}
 use borrow.Author.Tests.{le-leb, lt-leb}
 use Rattle.model.specs.Execution.{Attribute, Instruction, operation_count}
-use Rattle.model.specs.Questions.{Found, no_to, next, ask, many, question5, question11, read_instruction, read_program, read_programs, read_instructions, pure, ◌>>◌}
-use Rattle.record_decoded.specs.declared.types.Step.{Step}
-use Rattle.record_decoded.specs.declared.types.Step.TheVariants.{Refused, Next}
+use Rattle.model.specs.Questions.{Found, no_to, found, next, ask, many, question5, question11, read_instruction, read_program, read_programs, read_instructions, pure, ◌>>◌}
 use Rattle.record_decoded.specs.declared.types.Instructions.{Instructions}
 use Rattle.record_decoded.specs.Decoded.{instructions_of, Counted}
-use Rattle.record_decoded.specs.Steps.{found_by, ComesTo}
 use Rattle.record_decoded.proofs.Items.{byte_short, byte_there}
 
 module _ (processors : ℕ) (lines : List Attribute) (p : ℕ) (done : List Instruction) (part : List ℕ) where
@@ -40,78 +37,60 @@ counted_none {processors} {x} c o e = record {
   bounded = omega arith;
 }
 
--- The loop over the programs: what is left to read, from processor p on and index `at` on, decides the whole.
-pub record Programs (processors : ℕ) (lines : List Attribute) (part : List ℕ) (p at : ℕ) (done : List Instruction) : Type 0 where
+-- The loop over the programs: what is left to read, from processor p on, decides the whole.
+pub record Programs (processors : ℕ) (lines : List Attribute) (part : List ℕ) (p : ℕ) (done : List Instruction) (rest : List ℕ) : Type 0 where
   pub turns : p ≤ processors
-  pub room : at ≤ length part
-  pub decides : read_programs processors lines 0 processors [] part ≡ read_programs processors lines p (processors - p) done (drop at part)
+  pub decides : read_programs processors lines 0 processors [] part ≡ read_programs processors lines p (processors - p) done rest
 
-pub programs_start : {processors : ℕ} {lines : List Attribute} {part : List ℕ} {done : List Instruction} → done ≡ [] → Programs processors lines part 0 0 done
+pub programs_start : {processors : ℕ} {lines : List Attribute} {part : List ℕ} {done : List Instruction} → done ≡ [] → Programs processors lines part 0 done part
 programs_start {processors} {lines} {part} {done} e = record {
   turns = omega arith;
-  room = omega arith;
   decides = ap₂ (λ (k : ℕ) (l : List Instruction). read_programs processors lines 0 k l part) (let z : processors ≡ processors - 0 = omega arith in z) (sym e);
 }
 
-module _ {processors : ℕ} {lines : List Attribute} {p at : ℕ} {part : List ℕ} {done : List Instruction} (inv : Programs processors lines part p at done) where
-  module _ {s : List ℕ} {step : Step} {value : List Instruction} (more : p < processors) (here : s ≡ drop at part)
-      (walked : ComesTo (read_program processors lines p done s) s step value) where
-    turn : read_programs processors lines 0 processors [] part ≡ next (found_by s step value) (read_programs processors lines (suc p) (processors - (p + 1)))
-    unfolding read_programs
-    turn =
-        inv.decides
-        ∙ ap (λ (k : ℕ). read_programs processors lines p k done (drop at part)) (let z : processors - p ≡ suc (processors - (p + 1)) = omega arith in z)
-        ∙ ap (λ (f : Found (List Instruction)). next f (read_programs processors lines (suc p) (processors - (p + 1))))
-        (ap (read_program processors lines p done) (sym here) ∙ walked.is)
-
-    pub programs_on : {k : ℕ} → step ≡ Next k → Programs processors lines part (p + 1) (at + k) value
-    unfolding next
-    programs_on {k} e = record {
-      turns = omega arith;
-      room = omega (arith, walked.within k e, ap length here, length-drop at part, inv.room);
-      decides =
-          turn
-          ∙ ap (λ (t : Step). next (found_by s t value) (read_programs processors lines (suc p) (processors - (p + 1)))) e
-          ∙ ap₂ (λ (n : ℕ) (l : List ℕ). read_programs processors lines n (processors - (p + 1)) value l) (sym (add-one p))
-          (ap (drop k) here ∙ drop-drop k at part);
-    }
-
-    pub programs_fail : {q : ℕ} → step ≡ Refused q → read_programs processors lines 0 processors [] part ≡ no_to q
-    unfolding next
-    programs_fail {q} e = turn ∙ ap (λ (t : Step). next (found_by s t value) (read_programs processors lines (suc p) (processors - (p + 1)))) e
-
-  pub programs_end : processors ≤ p → ComesTo (read_programs processors lines 0 processors [] part) part (Next at) done
+module _ {processors : ℕ} {lines : List Attribute} {p : ℕ} {part rest : List ℕ} {done : List Instruction} (inv : Programs processors lines part p done rest) where
+  turn : p < processors → read_programs processors lines 0 processors [] part
+      ≡ next (read_program processors lines p done rest) (read_programs processors lines (suc p) (processors - (p + 1)))
   unfolding read_programs
-  programs_end h = record {
-    is = inv.decides ∙ ap (λ (k : ℕ). read_programs processors lines p k done (drop at part)) (let z : processors - p ≡ 0 = omega arith in z);
-    within = λ k e. let z : at ≡ k = cc in omega (arith, inv.room);
+  turn more =
+      inv.decides ∙ ap (λ (k : ℕ). read_programs processors lines p k done rest) (let z : processors - p ≡ suc (processors - (p + 1)) = omega arith in z)
+
+  pub programs_on : {value : List Instruction} {after : List ℕ} → p < processors → read_program processors lines p done rest ≡ found value after
+      → Programs processors lines part (p + 1) value after
+  unfolding next
+  programs_on {value} {after} more e = record {
+    turns = omega arith;
+    decides =
+        turn more
+        ∙ ap (λ (f : Found (List Instruction)). next f (read_programs processors lines (suc p) (processors - (p + 1)))) e
+        ∙ ap (λ (n : ℕ). read_programs processors lines n (processors - (p + 1)) value after) (sym (add-one p));
   }
 
--- question 11, after the last program
-module _ (processors : ℕ) (lines : List Attribute) (part : List ℕ) {step : Step} {value : List Instruction}
-    (walked : ComesTo (read_programs processors lines 0 processors [] part) part step value) where
-  after : read_instructions processors lines part
-      ≡ next (found_by part step value) (λ is. ◌>>◌ (ask 11 (question11 (operation_count processors is))) (pure is))
-  unfolding read_instructions
-  after = ap (λ (f : Found (List Instruction)). next f (λ is. ◌>>◌ (ask 11 (question11 (operation_count processors is))) (pure is))) walked.is
-
-  pub instructions_fail : {q : ℕ} → step ≡ Refused q → read_instructions processors lines part ≡ no_to q
+  pub programs_fail : {q : ℕ} → p < processors → read_program processors lines p done rest ≡ no_to q
+      → read_programs processors lines 0 processors [] part ≡ no_to q
   unfolding next
-  instructions_fail {q} e = after ∙ ap (λ (t : Step). next (found_by part t value) (λ is. ◌>>◌ (ask 11 (question11 (operation_count processors is))) (pure is))) e
+  programs_fail more e = turn more ∙ ap (λ (f : Found (List Instruction)). next f (read_programs processors lines (suc p) (processors - (p + 1)))) e
 
-  module _ {k : ℕ} (e : step ≡ Next k) where
-    programs_come : read_instructions processors lines part
-        ≡ ◌>>◌ (ask 11 (question11 (operation_count processors value))) (pure value) (drop k part)
-    unfolding next
-    programs_come = after ∙ ap (λ (t : Step). next (found_by part t value) (λ is. ◌>>◌ (ask 11 (question11 (operation_count processors is))) (pure is))) e
+  pub programs_end : processors ≤ p → read_programs processors lines 0 processors [] part ≡ found done rest
+  unfolding read_programs
+  programs_end h = inv.decides ∙ ap (λ (k : ℕ). read_programs processors lines p k done rest) (let z : processors - p ≡ 0 = omega arith in z)
 
+-- question 11, after the last program
+module _ (processors : ℕ) (lines : List Attribute) (part : List ℕ) where
+  after : (f : Found (List Instruction)) → read_programs processors lines 0 processors [] part ≡ f
+      → read_instructions processors lines part ≡ next f (λ is. ◌>>◌ (ask 11 (question11 (operation_count processors is))) (pure is))
+  unfolding read_instructions
+  after f e = ap (λ (f : Found (List Instruction)). next f (λ is. ◌>>◌ (ask 11 (question11 (operation_count processors is))) (pure is))) e
+
+  pub instructions_fail : {q : ℕ} → read_programs processors lines 0 processors [] part ≡ no_to q → read_instructions processors lines part ≡ no_to q
+  unfolding next
+  instructions_fail {q} e = after (no_to q) e
+
+  module _ {value : List Instruction} {rest : List ℕ} (e : read_programs processors lines 0 processors [] part ≡ found value rest) where
     pub instructions_many : 128 < operation_count processors value → read_instructions processors lines part ≡ no_to 11
     unfolding next ask question11
-    instructions_many h = programs_come ∙ rw (lt-leb (operation_count processors value) 128 h)
+    instructions_many h = after (found value rest) e ∙ rw (lt-leb (operation_count processors value) 128 h)
 
-    pub instructions_read : operation_count processors value ≤ 128 → ComesTo (read_instructions processors lines part) part (Next k) value
+    pub instructions_read : operation_count processors value ≤ 128 → read_instructions processors lines part ≡ found value rest
     unfolding next ask question11
-    instructions_read h = record {
-      is = programs_come ∙ rw (le-leb (operation_count processors value) 128 h);
-      within = λ j f. walked.within j (e ∙ f);
-    }
+    instructions_read h = after (found value rest) e ∙ rw (le-leb (operation_count processors value) 128 h)

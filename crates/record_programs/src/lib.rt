@@ -1,27 +1,23 @@
 // The section of programs, one for each processor.
 #![tactic(auto)]
 
-ghost use Rattle.std.specs.Prelude.{◌≡◌, true, cond, List, [], ℕ, ◌+◌, ◌*◌, ◌<◌, ◌≤◌, length, take, drop, eqb};
-ghost use Rattle.base.specs.Lists.{all};
-ghost use Rattle.model.specs.Execution.{Instruction, is_semaphore, operation_count};
-ghost use Rattle.model.specs.Questions.{more_length, question7, question8, question9, question26, question27, instruction_of, read_instruction, read_program, read_programs, read_instructions, many};
+ghost use Rattle.std.specs.Prelude.{◌≡◌, ◌==◌, true, cond, List, [], ℕ, ◌+◌, ◌*◌, ◌<◌, ◌≤◌, IfOk, length, get_or, drop};
+ghost use Rattle.std.specs.Borrow.{Bor};
+ghost use Rattle.std.specs.List.{list_all, range_with_len};
+ghost use Rattle.model.specs.Execution.{Instruction, WC, attribute_number, is_semaphore, operation_count};
+ghost use Rattle.model.specs.Questions.{more_length, question7, question8, question9, question26, question27, instruction_of, read_instruction, read_program, read_programs, read_instructions};
 ghost use Rattle.record_decoded.specs.Kinds.{meant};
 ghost use Rattle.record_decoded.specs.Decoded.{attributes_of, instructions_of, Counted};
-ghost use Rattle.record_decoded.specs.Steps.{entry_at, EntryThere, EntryAnswered, InstructionsComeTo, InstructionMore};
+ghost use Rattle.record_decoded.specs.Reads.{found_by, Entry, InstructionMore};
 
 use record_decoded::kind::{Kind, LAST_KIND, is_fence, is_semaphore, kind_of, operation_count};
 use record_decoded::memory::{attribute_in, is_wb, number_at_line};
 use record_decoded::position::Position;
+use record_decoded::question::Question;
 use record_decoded::types::{
-    Asked, DATA_STRIDE, ENTRY_LENGTH, Instructions, Lines, MOST_INSTRUCTIONS, Step, VALUE_LENGTH,
-    WIDE_SIZE, copy_bytes, wide,
+    DATA_STRIDE, ENTRY_LENGTH, Instructions, Lines, MOST_INSTRUCTIONS, VALUE_LENGTH, WIDE_SIZE,
+    copy_bytes, wide,
 };
-
-#[derive(Clone, Copy)]
-pub struct InstructionsRead {
-    pub step: Step,
-    pub instructions: Instructions,
-}
 
 pub fn no_instructions() -> Instructions
     ensures { (result.count ≡ 0) × (result.operations ≡ 0) × (instructions_of result ≡ []) }
@@ -58,13 +54,7 @@ fn size_passes(k: Kind, size: u8) -> bool
     if is_fence(k) {
         return size == 0;
     }
-    let count = size_count(k);
-    for i in 0..count {
-        if SIZES[i] == size {
-            return true;
-        }
-    }
-    false
+    SIZES[..size_count(k)].contains(&size)
 }
 
 // Question 26.
@@ -72,11 +62,15 @@ fn line_passes(lines: Lines, k: Kind, address: u8) -> bool
     requires { lines.count ≤ 8 }
     ensures { result ≡ question26 (attributes_of lines) (meant k) address }
 {
-    if is_semaphore(k) {
-        is_wb(attribute_in(lines, address))
-    } else {
-        true
-    }
+    !is_semaphore(k) || is_wb(attribute_in(lines, address))
+}
+
+// Whether so many lines from the first on have the attribute of a number.
+fn lines_alike(lines: Lines, first: usize, count: usize, number: usize) -> bool
+    requires { (lines.count ≤ 8) × (first < 256) × (count < 256) }
+    ensures { result ≡ list_all (λ i. attribute_number (get_or (attributes_of lines) (first + i) WC) == number) (range_with_len 0 count) }
+{
+    (0..count).all(|i| number_at_line(lines, first + i) == number)
 }
 
 // Question 27, over the lines of the access.
@@ -86,13 +80,7 @@ fn one_attribute(lines: Lines, size: u8, address: u8) -> bool
 {
     let first = wide(address) / 8;
     let count = (wide(size) + 7) / 8;
-    let number = number_at_line(lines, first);
-    for i in 0..count {
-        if number_at_line(lines, first + i) != number {
-            return false;
-        }
-    }
-    true
+    lines_alike(lines, first, count, number_at_line(lines, first))
 }
 
 // The bytes that an instruction has after the first eleven.
@@ -120,240 +108,144 @@ fn address_passes(lines: usize, k: Kind, size: u8, address: u8) -> bool
     end <= 8 * lines
 }
 
-// Whether n bytes from `from` on are zero.
-fn all_zero(part: &[u8], from: usize, n: usize) -> bool
-    requires { from + n ≤ length part.now }
-    ensures { result ≡ all (eqb 0) (take n (drop from part.now)) }
+// Whether the bytes of a value past the size are zero.
+fn spare_zero(value: &[u8], size: usize) -> bool
+    ensures { result ≡ list_all (λ b. b == 0) (drop size value.now) }
 {
-    for i in 0..n {
-        if part[from + i] != 0 {
-            return false;
-        }
-    }
-    true
+    value.iter().skip(size).all(|&b| b == 0)
 }
 
-// Whether those of `room` bytes from `from` on that lie past the size are zero.
-fn spare_zero(part: &[u8], from: usize, room: usize, size: usize) -> bool
-    requires { from + room ≤ length part.now }
-    ensures { result ≡ all (eqb 0) (drop size (take room (drop from part.now))) }
+// Question 9, of the eight data bytes and those after them.
+fn data_passes(data: &[u8], size: usize) -> bool
+    requires { 8 ≤ length «data».now }
+    ensures { result ≡ question9 size «data».now }
 {
-    if room < size {
-        return true;
-    }
-    all_zero(part, from + size, room - size)
+    let (value, more) = data.split_at(VALUE_LENGTH);
+    spare_zero(value, size) && spare_zero(more, size)
 }
 
-// Question 9, of the eight data bytes from `from` on and of so many more.
-fn data_passes(part: &[u8], from: usize, more: usize, size: usize) -> bool
-    requires { from + (8 + more) ≤ length part.now }
-    ensures { result ≡ question9 size (take (8 + more) (drop from part.now)) }
+// The entry of the instruction at the front of a part, and what is left behind it.
+fn read_entry(part: &[u8], lines: Lines) -> Result<(&[u8], &[u8]), Question>
+    requires { lines.count ≤ 8 }
+    ensures walked { (processors p : ℕ) (done : List Instruction)
+        → read_instruction processors (attributes_of lines) p done part.now ≡ found_by (λ (entry : Bor (List ℕ)). instruction_of processors p done entry.now) result }
+    ensures entry { IfOk result (λ r. Entry r.0.now) }
 {
-    if spare_zero(part, from, VALUE_LENGTH, size) {
-        spare_zero(part, from + VALUE_LENGTH, more, size)
-    } else {
-        false
+    if part.len() < ENTRY_LENGTH {
+        return Err(Question::Bytes);
     }
-}
-
-// The questions of the instruction at `at`.
-fn instruction_question(part: &[u8], at: usize, lines: Lines) -> Asked
-    requires { (at ≤ length part.now) × (lines.count ≤ 8) }
-    ensures { (processors p : ℕ) (done : List Instruction) → EntryAnswered processors (attributes_of lines) p done part.now at result }
-{
-    if part.len() - at < ENTRY_LENGTH {
-        return Asked::Fail(1);
-    }
-    let k = part[at];
+    let k = part[0];
     if LAST_KIND < k {
-        return Asked::Fail(6);
+        return Err(Question::Kind);
     }
     let kind = kind_of(k);
-    let size = part[at + 2];
+    let address = part[1];
+    let size = part[2];
     if !size_passes(kind, size) {
-        return Asked::Fail(7);
+        return Err(Question::Size);
     }
     let more = more_length(kind, size);
     let length = ENTRY_LENGTH + more;
-    if part.len() - at < length {
-        return Asked::Fail(1);
+    if part.len() < length {
+        return Err(Question::Bytes);
     }
-    let address = part[at + 1];
+    let (entry, rest) = part.split_at(length);
     if !address_passes(lines.count, kind, size, address) {
-        return Asked::Fail(8);
+        return Err(Question::Address);
     }
     if !line_passes(lines, kind, address) {
-        return Asked::Fail(26);
+        return Err(Question::SemaphoreLine);
     }
     if !one_attribute(lines, size, address) {
-        return Asked::Fail(27);
+        return Err(Question::LinesOfAccess);
     }
-    if !data_passes(part, at + 3, more, size as usize) {
-        return Asked::Fail(9);
+    if !data_passes(&entry[3..], size as usize) {
+        return Err(Question::SpareData);
     }
-    Asked::Pass(length)
+    Ok((entry, rest))
 }
 
-// One instruction more, of processor p, from its bytes at `at`.
-fn with_instruction(
-    x: Instructions,
-    part: &[u8],
-    at: usize,
-    processors: usize,
-    p: u8,
-) -> Instructions
-    requires { (x.count < 40) × EntryThere part.now at × (processors ≤ 8) × (x.operations ≤ 10 * x.count) × (x.operations ≡ operation_count processors (instructions_of x)) }
-    ensures { InstructionMore processors x result (instruction_of processors p (instructions_of x) (entry_at part.now at)) }
+// One instruction more, of processor p, from its entry.
+fn with_instruction(x: Instructions, entry: &[u8], processors: usize, p: u8) -> Instructions
+    requires { (x.count < 40) × Entry entry.now × (processors ≤ 8) × (x.operations ≤ 10 * x.count) × (x.operations ≡ operation_count processors (instructions_of x)) }
+    ensures { InstructionMore processors x result (instruction_of processors p (instructions_of x) entry.now) }
 {
     let i = x.count;
-    let mut processor = x.processors;
-    let mut kinds = x.kinds;
-    let mut addresses = x.addresses;
-    let mut sizes = x.sizes;
-    let mut firsts = x.firsts;
-    let mut bytes = x.bytes;
-    let kind = kind_of(part[at]);
-    let size = part[at + 2];
-    let first = x.operations;
-    processor[i] = p;
-    kinds[i] = part[at];
-    addresses[i] = part[at + 1];
-    sizes[i] = size;
-    firsts[i] = first as u16;
-    let data = VALUE_LENGTH + more_length(kind, size);
-    copy_bytes(&mut bytes, DATA_STRIDE * i, part, at + 3, data);
-    let count = i + 1;
-    let operations = first + operation_count(kind, processors);
-    Instructions {
-        count,
-        operations,
-        processors: processor,
-        kinds,
-        addresses,
-        sizes,
-        firsts,
-        bytes,
-    }
+    let mut more = x;
+    let kind = kind_of(entry[0]);
+    let data = VALUE_LENGTH + more_length(kind, entry[2]);
+    more.processors[i] = p;
+    more.kinds[i] = entry[0];
+    more.addresses[i] = entry[1];
+    more.sizes[i] = entry[2];
+    more.firsts[i] = x.operations as u16;
+    copy_bytes(&mut more.bytes, DATA_STRIDE * i, entry, 3, data);
+    more.count = i + 1;
+    more.operations = x.operations + operation_count(kind, processors);
+    more
 }
 
-// So many instructions of processor p, after their count, added to those of `is`.
-fn program_entries(
-    part: &[u8],
-    n: u8,
+// The program of processor p, as the part of the record that starts at its count, added to the instructions of `is`; and what is left behind it.
+fn read_program<'a>(
+    part: &'a [u8],
     lines: Lines,
     processors: usize,
     p: u8,
     is: Instructions,
-) -> InstructionsRead
-    requires in_bounds { (1 ≤ length part.now) × (lines.count ≤ 8) × (processors ≤ 8) × (is.count + n ≤ 40) }
+) -> Result<(Instructions, &'a [u8]), Question>
+    requires few { (lines.count ≤ 8) × (processors ≤ 8) }
     requires counted { Counted processors is }
-    ensures { InstructionsComeTo processors (many (read_instruction processors (attributes_of lines) p) n (instructions_of is) (drop 1 part.now)) part.now result.step result.instructions }
+    ensures walked { read_program processors (attributes_of lines) p (instructions_of is) part.now ≡ found_by instructions_of result }
+    ensures counted { IfOk result (λ r. Counted processors r.0) }
 {
+    let Some((&n, mut rest)) = part.split_first() else {
+        return Err(Question::Bytes);
+    };
+    if MOST_INSTRUCTIONS - is.count < wide(n) {
+        return Err(Question::Instructions);
+    }
     let mut instructions = is;
-    let mut at = 1;
-    for i in 0..n {
-        let asked = instruction_question(part, at, lines);
-        match asked {
-            Asked::Fail(q) => {
-                return InstructionsRead {
-                    step: Step::Refused(q),
-                    instructions,
-                };
-            }
-            Asked::Pass(size) => {
-                instructions = with_instruction(instructions, part, at, processors, p);
-                at = at + size;
-            }
-        }
+    for _ in 0..n {
+        let (entry, after) = read_entry(rest, lines)?;
+        instructions = with_instruction(instructions, entry, processors, p);
+        rest = after;
     }
-    InstructionsRead {
-        step: Step::Next(at),
-        instructions,
-    }
+    Ok((instructions, rest))
 }
 
-// The program of processor p, as the part of the record that starts at its count.
-fn read_program(
+// The programs of all processors, one after the other, and what is left behind them.
+fn read_programs(
     part: &[u8],
     lines: Lines,
     processors: usize,
-    p: u8,
-    is: Instructions,
-) -> InstructionsRead
-    requires count_bound { (lines.count ≤ 8) × (processors ≤ 8) }
-    requires counted { Counted processors is }
-    ensures { InstructionsComeTo processors (read_program processors (attributes_of lines) p (instructions_of is) part.now) part.now result.step result.instructions }
-{
-    if part.len() < 1 {
-        return InstructionsRead {
-            step: Step::Refused(1),
-            instructions: is,
-        };
-    }
-    let n = part[0];
-    let room = MOST_INSTRUCTIONS - is.count;
-    if room < wide(n) {
-        return InstructionsRead {
-            step: Step::Refused(5),
-            instructions: is,
-        };
-    }
-    program_entries(part, n, lines, processors, p, is)
-}
-
-// The programs of all processors, one after the other.
-fn read_programs(part: &[u8], lines: Lines, processors: usize) -> InstructionsRead
+) -> Result<(Instructions, &[u8]), Question>
     requires { (lines.count ≤ 8) × (processors ≤ 8) }
-    ensures { InstructionsComeTo processors (read_programs processors (attributes_of lines) 0 processors [] part.now) part.now result.step result.instructions }
+    ensures walked { read_programs processors (attributes_of lines) 0 processors [] part.now ≡ found_by instructions_of result }
+    ensures counted { IfOk result (λ r. Counted processors r.0) }
 {
     let mut instructions = no_instructions();
-    let mut at = 0;
+    let mut rest = part;
     for p in 0..processors {
-        let read = read_program(&part[at..], lines, processors, p as u8, instructions);
-        let step = read.step;
-        instructions = read.instructions;
-        match step {
-            Step::Refused(q) => {
-                return InstructionsRead {
-                    step: Step::Refused(q),
-                    instructions,
-                };
-            }
-            Step::Next(k) => {
-                at = at + k;
-            }
-        }
+        let (more, after) = read_program(rest, lines, processors, p as u8, instructions)?;
+        instructions = more;
+        rest = after;
     }
-    InstructionsRead {
-        step: Step::Next(at),
-        instructions,
-    }
+    Ok((instructions, rest))
 }
 
-// The programs, and question 11 after the last.
-pub fn read_instructions(part: &[u8], lines: Lines, processors: usize) -> InstructionsRead
+// The programs, and question 11 after the last; and what is left behind them.
+pub fn read_instructions(
+    part: &[u8],
+    lines: Lines,
+    processors: usize,
+) -> Result<(Instructions, &[u8]), Question>
     requires { (lines.count ≤ 8) × (processors ≤ 8) }
-    ensures { InstructionsComeTo processors (read_instructions processors (attributes_of lines) part.now) part.now result.step result.instructions }
+    ensures walked { read_instructions processors (attributes_of lines) part.now ≡ found_by instructions_of result }
+    ensures counted { IfOk result (λ r. Counted processors r.0) }
 {
-    let read = read_programs(part, lines, processors);
-    let step = read.step;
-    let instructions = read.instructions;
-    match step {
-        Step::Refused(q) => InstructionsRead {
-            step: Step::Refused(q),
-            instructions,
-        },
-        Step::Next(at) => {
-            if Position::LIMIT < instructions.operations {
-                return InstructionsRead {
-                    step: Step::Refused(11),
-                    instructions,
-                };
-            }
-            InstructionsRead {
-                step: Step::Next(at),
-                instructions,
-            }
-        }
+    let (instructions, rest) = read_programs(part, lines, processors)?;
+    if Position::LIMIT < instructions.operations {
+        return Err(Question::Operations);
     }
+    Ok((instructions, rest))
 }

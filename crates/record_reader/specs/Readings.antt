@@ -1,21 +1,17 @@
 -- What the reader of a record answers, and the walk over what follows the lines and the programs.
-use Rattle.std.specs.Prelude.{ℕ, List}
+use Rattle.std.specs.Prelude.{ℕ, List, Result, Ok, Err}
 use Rattle.model.specs.Execution as model
 use Rattle.model.specs.Questions.{Reader, pure, ◌>>=◌, ◌>>◌, question15, line_attributes, read_instructions, read_pairs}
 use Rattle.model.specs.Calls as calls
-use Rattle.record_reader.specs.declared.reader.Answer.{Answer}
-use Rattle.record_reader.specs.declared.reader.Answer.TheVariants.{Accepted, Refused}
-use Rattle.record_reader.specs.declared.reader.Reading.{Reading}
+use Rattle.record_decoded.specs.declared.question.Question.{Question}
 use Rattle.record_decoded.specs.declared.types.Execution.{Execution}
+use Rattle.record_decoded.specs.Refusals.{question_number}
 use Rattle.record_decoded.specs.Decoded.{execution_of}
 
 -- the answer of the code as the model's; the initial bytes are the record's
-abbrev pub answer_meant : List ℕ → Answer → Execution → calls.Answer model.Execution
-answer_meant bytes Accepted x = calls.says (execution_of bytes x)
-answer_meant bytes (Refused q) x = calls.refuses q
-
-abbrev pub reading_of : List ℕ → Reading → calls.Answer model.Execution
-reading_of bytes r = answer_meant bytes r.answer r.execution
+abbrev pub reading_of : List ℕ → Result Execution Question → calls.Answer model.Execution
+reading_of bytes (Ok x) = calls.says (execution_of bytes x)
+reading_of bytes (Err q) = calls.refuses (question_number q)
 
 -- the walk after the programs, and after the lines
 unfoldable pub after_instructions : ℕ → List model.Line → List model.Instruction → Reader model.Execution

@@ -1,13 +1,12 @@
--- A semaphore's line is WB; nothing is asked of others.
-use mathlib.Core.Path.{ap, ◌∙◌}
-use Rattle.model.specs.Execution.{is_WB}
+-- A semaphore's line is asked for, another's is not.
+use Rattle.std.proofs.Common.{rules}
 use Rattle.model.specs.Questions.{question26}
 use Rattle.record_programs.proofs.line_passes.Goals as goal
 
-pub returns-then-is_semaphore : goal.returns-then-is_semaphore
+pub returns-then-not-is_semaphore : goal.returns-then-not-is_semaphore
 unfolding question26
-returns-then-is_semaphore c = rw (← c.is_semaphore.ensures, c.if-is_semaphore.true) (c.is_wb.ensures ∙ ap is_WB c.attribute_in.ensures)
+returns-then-not-is_semaphore c = search rules
 
-pub returns-else-is_semaphore : goal.returns-else-is_semaphore
+pub returns-else-not-is_semaphore : goal.returns-else-not-is_semaphore
 unfolding question26
-returns-else-is_semaphore c = rw (← c.is_semaphore.ensures, c.if-is_semaphore.false)
+returns-else-not-is_semaphore c = search rules

@@ -4,4 +4,4 @@ use Rattle.record_programs.proofs.ProgramLaws.{Programs}
 use Rattle.record_programs.proofs.read_programs.Given as goal
 
 abbrev pub invariant-loop-p : goal.invariant-loop-p
-invariant-loop-p l = Programs l.processors (attributes_of l.lines) l.part l.p l.at (instructions_of l.instructions) × Counted l.processors l.instructions
+invariant-loop-p l = Programs l.processors (attributes_of l.lines) l.part l.p (instructions_of l.instructions) l.rest × Counted l.processors l.instructions

@@ -1,30 +1,15 @@
--- The sizes passed are others; the first that is the given one decides.
-use mathlib.Core.Path.{refl, sym, ◌∙◌}
-use borrow.Author.Tests.{eq-eqb, ne_eqb}
-use Rattle.base.proofs.Tests.{seeks, passes_by, meets, finds_none}
+-- A fence has size 0; else the size is one of the kind's first ones.
+use mathlib.Core.Path.{◌∙◌}
+use Rattle.std.proofs.Common.{rules}
 use Rattle.record_decoded.specs.Kinds.{meant}
-use Rattle.record_programs.proofs.EntryLaws.{fence_size, size_by_index}
+use Rattle.record_programs.proofs.EntryLaws.{fence_size, size_by_count, member_of}
 use Rattle.record_programs.proofs.size_passes.Goals as goal
 
 pub returns-then-is_fence : goal.returns-then-is_fence
-returns-then-is_fence c =
-    let a = c.args in
-    fence_size (meant a.k) a.size (sym c.is_fence.ensures ∙ c.if-is_fence.true)
-
-pub loop-i-init : goal.loop-i-init
-loop-i-init c = seeks
-
-pub returns-then-i-size : goal.returns-then-i-size
-returns-then-i-size c =
-    let a = c.args in
-    meets c.loop-i.invariant c.loop-i-test.true (sym (eq-eqb _ _ c.if-i-size.true)) refl
-    ∙ size_by_index (meant a.k) a.size c.size_count-count.result (sym c.is_fence.ensures ∙ c.if-is_fence.false) c.size_count-count.ensures.0 c.size_count-count.ensures.1
-
-pub loop-i-preserved : goal.loop-i-preserved
-loop-i-preserved c = passes_by c.loop-i.invariant c.loop-i-test.true (sym (ne_eqb _ _ c.if-i-size.false)) refl
+returns-then-is_fence c = fence_size (meant c.args.k) c.args.size (search rules)
 
 pub returns : goal.returns
 returns c =
     let a = c.args in
-    finds_none c.loop-i.invariant c.loop-i-test.false
-    ∙ size_by_index (meant a.k) a.size c.size_count-count.result (sym c.is_fence.ensures ∙ c.if-is_fence.false) c.size_count-count.ensures.0 c.size_count-count.ensures.1
+    let by_count = size_by_count (meant a.k) a.size c.size_count.result (search rules) c.size_count.ensures.0 in
+    c.contains.ensures.value ∙ member_of _ a.size ∙ by_count

@@ -1,26 +1,18 @@
--- The instruction's bytes go to the next place of each array: one instruction more.
+-- The entry's bytes go to the next place of each array: one instruction more.
 use native.Mathlib.Omega.{arith}
 use mathlib.Core.Path.{◌≡◌, ap, ◌∙◌}
 use Prim.Native.Nat.{ℕ, ◌+◌, ◌*◌}
 use lib.ListN.{length, get_or, drop}
 use lib.Seq.{paste}
+use Rattle.std.proofs.Common.{rules}
 use Rattle.model.specs.Execution.{Kind, kind_of, roles}
 use Rattle.model.specs.Questions.{more_length}
 use Rattle.record_decoded.specs.Kinds.{meant}
 use Rattle.record_programs.proofs.InstructionLaws.{Sized, few_roles, instruction_more}
-use borrow.Author.Rules.{rules}
 use Rattle.record_programs.proofs.with_instruction.Goals as goal
 
-pub copy_bytes-requires : goal.copy_bytes-requires
-copy_bytes-requires c =
-    let a = c.args in
-    let z : length a.x.bytes ≡ 640 = search rules in
-    let m = c.more_length-data.ensures in
-    let there = c.requires.1.0 in
-    (omega arith, omega (arith, m.0, ap (λ (k : Kind). more_length k (get_or a.part.now (a.at + 2) 0)) c.kind_of-kind.ensures))
-
-pub overflow_add-operations : goal.overflow_add-operations
-overflow_add-operations c =
+pub overflow_add-more-2 : goal.overflow_add-more-2
+overflow_add-more-2 c =
     let a = c.args in
     let n = c.operation_count.ensures in
     omega (arith, few_roles a.processors (meant c.kind_of-kind.result) (omega arith))
@@ -36,9 +28,9 @@ returns c =
       firsts = search rules;
       bytes = search rules;
     } in
-    let n : a.x.operations + c.operation_count.result ≡ a.x.operations + length (roles a.processors (kind_of (get_or a.part.now a.at 0))) =
+    let n : a.x.operations + c.operation_count.result ≡ a.x.operations + length (roles a.processors (kind_of (get_or a.entry.now 0 0))) =
     ap (λ (m : ℕ). a.x.operations + m) (c.operation_count.ensures ∙ ap (λ (k : Kind). length (roles a.processors k)) c.kind_of-kind.ensures) in
     let kind = c.kind_of-kind.ensures in
     let more = c.more_length-data.ensures.0 in
-    instruction_more a.processors a.x a.part.now a.at a.p (a.x.operations + c.operation_count.result) c.copy_bytes.new.to sized
-    (omega arith) c.requires.1 c.requires.4 (c.copy_bytes.ensures ∙ ap (λ (m : ℕ). paste a.x.bytes (16 * a.x.count) (drop (a.at + 3) a.part.now) (8 + m)) (more ∙ ap (λ (k : Kind). more_length k (get_or a.part.now (a.at + 2) 0)) kind)) (omega arith) (omega arith) n
+    instruction_more a.processors a.x a.entry.now a.p (a.x.operations + c.operation_count.result) c.copy_bytes.new.to sized
+    (omega arith) c.requires.1 c.requires.4 (c.copy_bytes.ensures ∙ ap (λ (m : ℕ). paste a.x.bytes (16 * a.x.count) (drop 3 a.entry.now) (8 + m)) (more ∙ ap (λ (k : Kind). more_length k (get_or a.entry.now 2 0)) kind)) (omega arith) (omega arith) n
