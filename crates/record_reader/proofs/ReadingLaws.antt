@@ -32,16 +32,20 @@ module _ (processors : ℕ) (lines : List model.Line) (is : List model.Instructi
 
   module _ {pairs : List (ℕ × ℕ)} {rest : List ℕ} (e : read_pairs is part ≡ found pairs rest) where
     pub end_more : 0 < length rest → answer_of (after_instructions processors lines is part) ≡ refuses 15
-    unfolding after_instructions answer_of next question15
-    end_more h = ap answer_of (section_read _ e) ∙ go rest h
+    unfolding after_instructions answer_of question15
+    end_more h = ap answer_of (section_read _ e ∙ section_fails _ (go rest h))
       where
-        go : (l : List ℕ) → 0 < length l → answer_of (next (question15 l) (λ (u : Unit {0}). found (record { processors = processors; lines = lines; instructions = is; pairs = pairs }))) ≡ refuses 15
+        go : (l : List ℕ) → 0 < length l → question15 l ≡ no_to 15
         go [] h = absurd (omega arith)
         go (b ∷ l) h = refl
 
-    pub end_here : rest ≡ [] → answer_of (after_instructions processors lines is part) ≡ says (record { processors = processors; lines = lines; instructions = is; pairs = pairs })
+    pub end_here : length rest ≡ 0 → answer_of (after_instructions processors lines is part) ≡ says (record { processors = processors; lines = lines; instructions = is; pairs = pairs })
     unfolding after_instructions answer_of next question15
-    end_here h = ap answer_of (section_read _ e) ∙ rw h
+    end_here h = ap answer_of (section_read _ e) ∙ rw (none rest h)
+      where
+        none : (l : List ℕ) → length l ≡ 0 → l ≡ []
+        none [] h = refl
+        none (b ∷ l) h = absurd (omega arith)
 
 -- the walk after the lines
 module _ (processors : ℕ) (lines : List model.Line) (attributes : List model.Attribute) (same : line_attributes lines ≡ attributes) (part : List ℕ) where
