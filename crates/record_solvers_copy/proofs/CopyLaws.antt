@@ -55,29 +55,16 @@ module _ (bytes buffer : List ℕ) where
     unfolding solvers_copy_call
     copy_short short = ap (record_reply buffer) (asked_no 25 (says (zeroed places bytes)) (lt-leb (length bytes) (length buffer) short) ∙ behind)
 
-    -- the record at the front of the buffer
-    module _ {out : List ℕ} (copied : out ≡ paste buffer 0 bytes (length bytes)) where
-      front : out ≡ bytes ++ drop (length bytes) buffer
-      front = copied ∙ ap₂ (λ (l : List ℕ) (n : ℕ). l ++ drop n buffer) (take-length bytes) (let z : 0 + length bytes ≡ length bytes = omega arith in z)
+    pub copy_within : all (λ k. ltb k (length bytes)) places ≡ true
+    copy_within = within
 
-      pub copy_within : all (λ k. ltb k (length out)) places ≡ true
-      copy_within =
-          all_members (λ k. ltb k (length out)) places (λ k m.
-          lt-ltb k (length out) (omega (
-            arith,
-            ltb-true k (length bytes) (all_member (λ k. ltb k (length bytes)) m within),
-            ap length front,
-            length-append bytes (drop (length bytes) buffer),
-          )))
-
-      pub copy_done : length bytes ≤ length buffer → {after : List ℕ} → after ≡ zeroed places out
-          → record { answer = says done; length = length bytes; buffer = after } ≡ solvers_copy_call bytes buffer
-      unfolding record_reply solvers_copy_call
-      copy_done enough {after} made =
-          (λ i. record {
-            answer = says done;
-            length = sym (zeroed_length places bytes) i;
-            buffer = (made ∙ ap (zeroed places) front ∙ zeroed_front places bytes (drop (length bytes) buffer) within
-                ∙ ap (λ (n : ℕ). zeroed places bytes ++ drop n buffer) (sym (zeroed_length places bytes))) i;
-          })
-          ∙ ap (record_reply buffer) (asked_yes 25 (says (zeroed places bytes)) (le-leb (length bytes) (length buffer) enough) ∙ behind)
+    pub copy_done : length bytes ≤ length buffer
+        → record { answer = says done; length = length bytes; buffer = zeroed places bytes ++ drop (length bytes) buffer } ≡ solvers_copy_call bytes buffer
+    unfolding record_reply solvers_copy_call
+    copy_done enough =
+        (λ i. record {
+          answer = says done;
+          length = sym (zeroed_length places bytes) i;
+          buffer = ap (λ (n : ℕ). zeroed places bytes ++ drop n buffer) (sym (zeroed_length places bytes)) i;
+        })
+        ∙ ap (record_reply buffer) (asked_yes 25 (says (zeroed places bytes)) (le-leb (length bytes) (length buffer) enough) ∙ behind)

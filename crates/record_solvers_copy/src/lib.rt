@@ -9,12 +9,10 @@ ghost use Rattle.model.specs.SolversCopy.{seen_length, seen_places, zeroed, solv
 ghost use Rattle.record_writer.specs.Replies.{reply_of};
 
 use record_decoded::kind::{Kind, is_load, is_semaphore, kind_of};
-use record_decoded::types::{
-    ENTRY_LENGTH, Instructions, LINE_LENGTH, VALUE_LENGTH, copy_bytes, wide,
-};
+use record_decoded::question::Question;
+use record_decoded::types::{ENTRY_LENGTH, Instructions, LINE_LENGTH, VALUE_LENGTH, wide};
 use record_programs::more_length;
-use record_reader::reader::{Answer, read};
-use record_writer::{WriteAnswer, WriteReply, refused};
+use record_reader::reader::read;
 
 // What stands before the data bytes of a first instruction of processor 0, without the lines: P, their count, the program's count, then its kind, address and size.
 const FIRST_DATA: usize = 2 + 1 + 3;
@@ -38,8 +36,8 @@ fn clear(bytes: &mut [u8], at: usize, n: usize)
     requires { all (λ k. ltb k (length bytes.old)) (count at n) ≡ true }
     ensures { bytes.new ≡ zeroed (count at n) bytes.old }
 {
-    for k in 0..n {
-        bytes[at + k] = 0;
+    if n > 0 {
+        bytes[at..at + n].fill(0);
     }
 }
 
@@ -58,26 +56,16 @@ fn clear_seen(bytes: &mut [u8], lines: usize, is: Instructions)
     }
 }
 
-// Writes the solvers' copy of a record at the front of the buffer.
-pub fn solvers_copy(bytes: &[u8], buffer: &mut [u8]) -> WriteReply
+// Writes the solvers' copy of a record at the front of the buffer, and answers how long it is.
+pub fn solvers_copy(bytes: &[u8], buffer: &mut [u8]) -> Result<usize, Question>
     ensures { reply_of result buffer.new ≡ solvers_copy_call bytes.now buffer.old }
 {
-    let reading = read(bytes);
-    let answer = reading.answer;
-    let execution = reading.execution;
-    match answer {
-        Answer::Refused(q) => refused(q),
-        Answer::Accepted => {
-            if buffer.len() < bytes.len() {
-                return refused(25);
-            }
-            copy_bytes(buffer, 0, bytes, 0, bytes.len());
-            let lines = execution.lines;
-            clear_seen(buffer, lines.count, execution.instructions);
-            WriteReply {
-                answer: WriteAnswer::Done,
-                length: bytes.len(),
-            }
-        }
+    let execution = read(bytes)?;
+    if buffer.len() < bytes.len() {
+        return Err(Question::RecordRoom);
     }
+    let copy = &mut buffer[..bytes.len()];
+    copy.copy_from_slice(bytes);
+    clear_seen(copy, execution.lines.count, execution.instructions);
+    Ok(bytes.len())
 }

@@ -1,11 +1,11 @@
 -- The call's questions in turn, and what it then answers and writes.
-use Prim.Native.Nat.{ℕ, ◌+◌, ◌≤◌, ◌<◌}
+use Prim.Native.Nat.{ℕ, ◌≤◌, ◌<◌}
 use native.Mathlib.Omega.{arith}
 use mathlib.Core.Path.{◌≡◌, sym, ap, ap₂, ◌∙◌}
 use mathlib.Core.Bool.{true, false}
 use mathlib.Core.List.{List, ◌++◌}
 use lib.ListN.{length, take, drop}
-use lib.Seq.{paste, length-take-le}
+use lib.Seq.{length-take-le}
 use lib.Dec.{leb}
 use borrow.Author.Tests.{le-leb, lt-leb}
 use Rattle.model.specs.Execution.{Execution}
@@ -51,12 +51,12 @@ module _ (s : Sections) (buffer : List ℕ) where
         reply_short short = ap (record_reply buffer) (asked_no 25 (says (record_of s)) (lt-leb (length (record_of s)) (length buffer) (omega (arith, long))) ∙ behind)
 
         pub reply_done : n ≤ length buffer
-            → record { answer = says done; length = n; buffer = paste buffer 0 x n } ≡ record_reply buffer (write_record (record_of s) buffer)
+            → record { answer = says done; length = n; buffer = take n x ++ drop n buffer } ≡ record_reply buffer (write_record (record_of s) buffer)
         unfolding record_reply
         reply_done enough =
             (λ i. record {
               answer = says done;
               length = sym long i;
-              buffer = (ap₂ (λ (a : List ℕ) (k : ℕ). a ++ drop k buffer) same (let z : 0 + n ≡ length (record_of s) = omega (arith, long) in z)) i;
+              buffer = (ap₂ (λ (a : List ℕ) (k : ℕ). a ++ drop k buffer) same (sym long)) i;
             })
             ∙ ap (record_reply buffer) (asked_yes 25 (says (record_of s)) (le-leb (length (record_of s)) (length buffer) (omega (arith, long))) ∙ behind)
