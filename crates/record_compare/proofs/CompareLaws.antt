@@ -7,21 +7,21 @@ use Rattle.model.specs.Calls.{says, refuses, read_all}
 use Rattle.model.specs.Renumbering.{smallest_form, Comparison, equal, left_first, right_first, comparison, comparing, compare_call, left_record, right_record, empty_part, stands_first, handed, first_call}
 use Rattle.model.proofs.Asking.{after_says, after_refuses}
 use Rattle.record_renumbering.proofs.CallsOrder.{by_forms, forms_equal, forms_left, forms_right, comparison_by_forms}
-use Rattle.record_form.specs.declared.lex.LexOrder.{LexOrder}
-use Rattle.record_form.specs.declared.lex.LexOrder.TheVariants as cases
+use Rattle.std.specs.declared.cmp.Ordering.{Ordering}
+use Rattle.std.specs.declared.cmp.Ordering.TheVariants as cases
 use Rattle.record_form.specs.Lexical.{LexOrdered}
 use Rattle.record_form.proofs.LexLaws.{less_when, same_when, greater_when}
 
 -- by how the smallest forms compare
 module _ (left right : List ℕ) (e f : Execution) (h : read_all left ≡ says e) (k : read_all right ≡ says f)
-    (r : LexOrder) (s t : List ℕ) (ordered : LexOrdered r s t) (es : s ≡ smallest_form e) (et : t ≡ smallest_form f) where
+    (r : Ordering) (s t : List ℕ) (ordered : LexOrdered r s t) (es : s ≡ smallest_form e) (et : t ≡ smallest_form f) where
   says_by : (c : Comparison) → by_forms (smallest_form e) (smallest_form f) ≡ c → says c ≡ says (comparison e f)
   says_by c b = ap says (sym (comparison_by_forms left right e f h k ∙ b))
 
   pub by_less : r ≡ cases.Less → says left_first ≡ says (comparison e f)
   by_less told = says_by left_first (forms_left (smallest_form e) (smallest_form f) (sym (less_when r s t ordered es et told)))
 
-  pub by_same : r ≡ cases.Same → says equal ≡ says (comparison e f)
+  pub by_same : r ≡ cases.Equal → says equal ≡ says (comparison e f)
   by_same told = says_by equal (forms_equal (smallest_form e) (smallest_form f) (same_when r s t ordered es et told))
 
   pub by_greater : r ≡ cases.Greater → says right_first ≡ says (comparison e f)

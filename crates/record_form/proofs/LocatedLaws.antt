@@ -20,8 +20,8 @@ use Rattle.record_renumbering.proofs.Ascending as ascending
 use Rattle.record_decoded.specs.declared.types.Execution.{Execution}
 use Rattle.record_decoded.specs.Decoded.{instructions_of, pairs_of, execution_of}
 use Rattle.record_decoded.proofs.Arrays as arrays
-use Rattle.record_form.specs.declared.lex.LexOrder.{LexOrder}
-use Rattle.record_form.specs.declared.lex.LexOrder.TheVariants as cases
+use Rattle.std.specs.declared.cmp.Ordering.{Ordering}
+use Rattle.std.specs.declared.cmp.Ordering.TheVariants as cases
 use Rattle.record_form.specs.declared.processors.Starts.{Starts}
 use Rattle.record_form.specs.Lexical.{LexOrdered}
 use Rattle.record_form.specs.Places.{program_place, StartsMean, key_end}
@@ -98,7 +98,7 @@ module _ (bytes : List ℕ) (x : Execution) (starts : Starts) (read : read_all b
       ∙ program_start_lem laid p l
 
   -- the keys of two processors, by how their programs compare
-  module _ (a b : ℕ) (r : LexOrder) {u v : List ℕ} (h : LexOrdered r u v) (eu : u ≡ program_at a) (ev : v ≡ program_at b) where
+  module _ (a b : ℕ) (r : Ordering) {u v : List ℕ} (h : LexOrdered r u v) (eu : u ≡ program_at a) (ev : v ≡ program_at b) where
     by_parts : key_less is (pairs_of x.pairs) a b ≡ (lex_less (program_at a) (program_at b) || (same (program_at a) (program_at b) && lex_less (key_end is (pairs_of x.pairs) a) (key_end is (pairs_of x.pairs) b)))
     unfolding execution_of
     by_parts = ascending.key_less_lem laid a b
@@ -106,7 +106,7 @@ module _ (bytes : List ℕ) (x : Execution) (starts : Starts) (read : read_all b
     pub key_by_less : r ≡ cases.Less → true ≡ key_less is (pairs_of x.pairs) a b
     key_by_less e = sym (by_parts ∙ rw (sym (less_when r u v h eu ev e)))
 
-    pub key_by_pairs : r ≡ cases.Same → lex_less (key_end is (pairs_of x.pairs) a) (key_end is (pairs_of x.pairs) b) ≡ key_less is (pairs_of x.pairs) a b
+    pub key_by_pairs : r ≡ cases.Equal → lex_less (key_end is (pairs_of x.pairs) a) (key_end is (pairs_of x.pairs) b) ≡ key_less is (pairs_of x.pairs) a b
     key_by_pairs e =
         let one = same_when r u v h eu ev e in
         sym (by_parts ∙ rw (sym (same_not_less r u v h eu ev e), subst (λ (w : List ℕ). same (program_at a) w ≡ true) one (same_itself (program_at a))))

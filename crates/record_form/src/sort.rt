@@ -8,9 +8,10 @@ ghost use Rattle.record_renumbering.specs.Keys.{key_less};
 ghost use Rattle.record_form.specs.Places.{StartsMean, key_end};
 ghost use Rattle.record_form.specs.Sorting.{place_for};
 
-use crate::lex::{LexOrder, lex_order};
+use crate::lex::lex_order;
 use crate::processors::{Starts, own_pairs};
 use record_decoded::types::{Execution, MOST_PROCESSORS, copy_bytes, wide};
+use std::cmp::Ordering;
 
 // Whether the pairs of processor a come before those of b.
 fn pairs_less(x: Execution, starts: Starts, a: usize, b: usize) -> bool
@@ -24,12 +25,7 @@ fn pairs_less(x: Execution, starts: Starts, a: usize, b: usize) -> bool
     let right_length = right.length;
     let left_bytes = left.bytes;
     let right_bytes = right.bytes;
-    let order = lex_order(&left_bytes[..left_length], &right_bytes[..right_length]);
-    match order {
-        LexOrder::Less => true,
-        LexOrder::Same => false,
-        LexOrder::Greater => false,
-    }
+    lex_order(&left_bytes[..left_length], &right_bytes[..right_length]).is_lt()
 }
 
 // Whether the key of processor a comes before that of b.
@@ -44,9 +40,9 @@ fn key_less(bytes: &[u8], x: Execution, starts: Starts, a: usize, b: usize) -> b
     let right_end = places[b + 1];
     let order = lex_order(&bytes[left..left_end], &bytes[right..right_end]);
     match order {
-        LexOrder::Less => true,
-        LexOrder::Same => pairs_less(x, starts, a, b),
-        LexOrder::Greater => false,
+        Ordering::Less => true,
+        Ordering::Equal => pairs_less(x, starts, a, b),
+        Ordering::Greater => false,
     }
 }
 

@@ -106,13 +106,13 @@ returns-in-Less c =
     key_by_less a.bytes.now a.x a.starts pre.0 pre.1 a.a a.b order.result order.ensures
     (program_part a.bytes.now a.x a.starts pre.0 pre.1 a.a pre.2) (program_part a.bytes.now a.x a.starts pre.0 pre.1 a.b pre.3) c.in-Less.is
 
-pub returns-in-Same : goal.returns-in-Same
-returns-in-Same c =
+pub returns-in-Equal : goal.returns-in-Equal
+returns-in-Equal c =
     let a = c.args in
     let pre = c.requires in
     let order = c.lex_order-order in
     c.pairs_less.ensures ∙ key_by_pairs a.bytes.now a.x a.starts pre.0 pre.1 a.a a.b order.result order.ensures
-    (program_part a.bytes.now a.x a.starts pre.0 pre.1 a.a pre.2) (program_part a.bytes.now a.x a.starts pre.0 pre.1 a.b pre.3) c.in-Same.is
+    (program_part a.bytes.now a.x a.starts pre.0 pre.1 a.a pre.2) (program_part a.bytes.now a.x a.starts pre.0 pre.1 a.b pre.3) c.in-Equal.is
 
 pub returns-in-Greater : goal.returns-in-Greater
 returns-in-Greater c =
