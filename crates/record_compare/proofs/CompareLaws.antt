@@ -11,21 +11,21 @@ use Rattle.std.specs.declared.cmp.Ordering.{Ordering}
 use Rattle.std.specs.declared.cmp.Ordering.TheVariants as cases
 use Rattle.record_form.specs.Lexical.{LexOrdered}
 use Rattle.record_form.proofs.LexLaws.{less_when, same_when, greater_when}
+use Rattle.record_compare.specs.Compared.{ordering_meant}
 
 -- by how the smallest forms compare
 module _ (left right : List ℕ) (e f : Execution) (h : read_all left ≡ says e) (k : read_all right ≡ says f)
     (r : Ordering) (s t : List ℕ) (ordered : LexOrdered r s t) (es : s ≡ smallest_form e) (et : t ≡ smallest_form f) where
-  says_by : (c : Comparison) → by_forms (smallest_form e) (smallest_form f) ≡ c → says c ≡ says (comparison e f)
-  says_by c b = ap says (sym (comparison_by_forms left right e f h k ∙ b))
+  compares : by_forms (smallest_form e) (smallest_form f) ≡ comparison e f
+  compares = sym (comparison_by_forms left right e f h k)
 
-  pub by_less : r ≡ cases.Less → says left_first ≡ says (comparison e f)
-  by_less told = says_by left_first (forms_left (smallest_form e) (smallest_form f) (sym (less_when r s t ordered es et told)))
-
-  pub by_same : r ≡ cases.Equal → says equal ≡ says (comparison e f)
-  by_same told = says_by equal (forms_equal (smallest_form e) (smallest_form f) (same_when r s t ordered es et told))
-
-  pub by_greater : r ≡ cases.Greater → says right_first ≡ says (comparison e f)
-  by_greater told = says_by right_first (forms_right (smallest_form e) (smallest_form f) (greater_when r s t ordered es et told))
+  pub by_order : ordering_meant r ≡ comparison e f
+  by_order = go r refl
+    where
+      go : (o : Ordering) → r ≡ o → ordering_meant r ≡ comparison e f
+      go cases.Less told = ap ordering_meant told ∙ sym (forms_left (smallest_form e) (smallest_form f) (sym (less_when r s t ordered es et told))) ∙ compares
+      go cases.Equal told = ap ordering_meant told ∙ sym (forms_equal (smallest_form e) (smallest_form f) (same_when r s t ordered es et told)) ∙ compares
+      go cases.Greater told = ap ordering_meant told ∙ sym (forms_right (smallest_form e) (smallest_form f) (greater_when r s t ordered es et told)) ∙ compares
 
 -- refusals, the left one first
 pub left_refused : {q : ℕ} (left right : List ℕ) → read_all left ≡ refuses q → refuses q ≡ compare_call left right

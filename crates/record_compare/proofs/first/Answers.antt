@@ -5,10 +5,10 @@ use Rattle.record_compare.proofs.CompareLaws.{left_handed, right_handed, none_ha
 use Rattle.record_compare.proofs.first.Goals as goal
 
 pub returns-in-Left : goal.returns-in-Left
-returns-in-Left c = let a = c.args in left_handed a.left.now a.right.now (ap handed_meant (sym c.in-Left.is) ∙ c.stands_first-handed.ensures)
+returns-in-Left c = left_handed c.args.left.now c.args.right.now (ap handed_meant (sym c.in-Left.is) ∙ c.stands_first.ensures)
 
 pub returns-in-Right : goal.returns-in-Right
-returns-in-Right c = let a = c.args in right_handed a.left.now a.right.now (ap handed_meant (sym c.in-Right.is) ∙ c.stands_first-handed.ensures)
+returns-in-Right c = right_handed c.args.left.now c.args.right.now (ap handed_meant (sym c.in-Right.is) ∙ c.stands_first.ensures)
 
 pub returns-in-Empty : goal.returns-in-Empty
-returns-in-Empty c = let a = c.args in none_handed a.left.now a.right.now (ap handed_meant (sym c.in-Empty.is) ∙ c.stands_first-handed.ensures)
+returns-in-Empty c = none_handed c.args.left.now c.args.right.now (ap handed_meant (sym c.in-Empty.is) ∙ c.stands_first.ensures)
