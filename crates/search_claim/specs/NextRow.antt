@@ -1,11 +1,10 @@
 -- Rows that meet the hypotheses of `NextPrefix`, of K2: one processor, st x=1, ld x sees 0. Its consistent prefixes are the empty one, 0 and 0 1, in this
 -- order, and none of them is full.
-use Rattle.std.specs.Prelude.{ℕ, ◌*◌, ◌-◌, List, [], ◌∷◌, ◌++◌, set, replicate}
+use Rattle.std.specs.Prelude.{ℕ, Some, None, ◌*◌, ◌-◌, List, [], ◌∷◌, ◌++◌, set, replicate}
 use Rattle.model.specs.PaperTable.{k2}
 use Rattle.record_decoded.specs.declared.types.Execution.{Execution}
 use Rattle.relation_links.specs.declared.operations.Operations.{Operations}
 use Rattle.search_admit.specs.Rows.{row_length, table_length}
-use Rattle.search_walk.specs.declared.WalkAnswer.TheVariants.{Next, End}
 use Rattle.search_walk.specs.Walks.{levels_length}
 use Rattle.search_claim.specs.NextPrefix.{WalkedFrom}
 
@@ -79,9 +78,9 @@ next_replaced = replicate 256 0
 
 -- From 0 the walk comes to 0 1, which the claim then says is the next.
 abbrev pub NextRow : Type 0
-NextRow = WalkedFrom k2 k2_arrays k2_operations k2_marks k2_rows (0 ∷ []) (Next 2) next_position next_places next_levels next_words next_replaced
+NextRow = WalkedFrom k2 k2_arrays k2_operations k2_marks k2_rows (0 ∷ []) (Some 2) next_position next_places next_levels next_words next_replaced
 
 -- From 0 1 it comes to the end: the claim says that none comes after. Both entries are taken back, so that no place and no word of theirs is left; the rest
 -- stays. (What the walk leaves at the end is not asked.)
 abbrev pub EndRow : Type 0
-EndRow = WalkedFrom k2 k2_arrays k2_operations k2_marks k2_rows (0 ∷ 1 ∷ []) End next_position (replicate 128 255) next_levels (replicate 128 0) next_replaced
+EndRow = WalkedFrom k2 k2_arrays k2_operations k2_marks k2_rows (0 ∷ 1 ∷ []) None next_position (replicate 128 255) next_levels (replicate 128 0) next_replaced

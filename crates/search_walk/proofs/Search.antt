@@ -22,7 +22,7 @@ use Rattle.search_admit.proofs.WordLaws.{words_length, without_length}
 use Rattle.search_admit.specs.Rows.{words_with, replaced_with, words_without, words_after}
 use Rattle.search_admit.specs.Fits.{due_of, ready, refused, reads_recorded, enabled, fits_by, Standing, Tested}
 use Rattle.search_enabled.specs.Affects.{Affecting}
-use Rattle.search_walk.specs.declared.WalkAnswer.TheVariants.{Next, End}
+use Rattle.std.specs.Prelude.{Some, None}
 use Rattle.search_walk.specs.Walks.{stands, enables, opens, low, high, Levels, Level, Remembered, Closed, IsNext, Kept, Walked}
 use Rattle.search_walk.proofs.Gaps.{Gap, closed_front, gap_starts, gap_more, gap_skip, gap_up, gap_last, gap_next}
 use Rattle.search_walk.proofs.Levels.{placed_less, one_more, placed_more, remembered_less, remembered_more, levels_less, levels_more}
@@ -197,7 +197,7 @@ module _ {n : ℕ} {rows xs : List ℕ} {size : ℕ} {position places levels wor
         point = ap₂ (λ (ys : List ℕ) (o : ℕ). ys ++ o ∷ []) shorter (omega (arith, at.bounded))
 
   -- no candidate is left at all
-  pub search_ends : {position' places' levels' words' replaced' : List ℕ} → k ≡ 0 → n ≤ c → Walked n rows xs End position' places' levels' words' replaced'
+  pub search_ends : {position' places' levels' words' replaced' : List ℕ} → k ≡ 0 → n ≤ c → Walked n rows xs None position' places' levels' words' replaced'
   search_ends z none_left = record {
     ready = tt;
     means = λ p tested closed passes. gap_last p n xs (subst (λ (ys : List ℕ). Gap p n xs ys) point (at.gap p tested closed passes));
@@ -207,7 +207,7 @@ module _ {n : ℕ} {rows xs : List ℕ} {size : ℕ} {position places levels wor
       point = ap₂ (λ (i o : ℕ). take i position ++ o ∷ []) z (omega (arith, at.bounded))
 
   -- no turn is left
-  pub search_spent : {position' places' levels' words' replaced' : List ℕ} → left ≡ 0 → Walked n rows xs End position' places' levels' words' replaced'
+  pub search_spent : {position' places' levels' words' replaced' : List ℕ} → left ≡ 0 → Walked n rows xs None position' places' levels' words' replaced'
   search_spent h = search_ends (no_level k (omega (arith, at.turns))) (omega (arith, at.turns))
     where
       no_level : (j : ℕ) → j * n ≡ 0 → j ≡ 0
@@ -219,7 +219,7 @@ module _ {n : ℕ} {rows xs : List ℕ} {size : ℕ} {position places levels wor
       → refused rows places (low levels k) (high levels k) c ≡ false
       → {position' places' levels' words' replaced' : List ℕ} → position' ≡ set position k c → places' ≡ set places c k → words' ≡ words_with rows words c
       → replaced' ≡ replaced_with rows words replaced k c → Level rows affected words' c k levels levels'
-      → Walked n rows xs (Next (k + 1)) position' places' levels' words' replaced'
+      → Walked n rows xs (Some (k + 1)) position' places' levels' words' replaced'
   search_found affected affecting_are full l is_open free {levels' = levels'} d e f g made = rw (d, e, f, g) record {
     ready = (
       omega (arith, at.within, at.from.room),

@@ -1,5 +1,5 @@
 -- What the walk asks and promises.
-use Rattle.std.specs.Prelude.{ℕ, ◌+◌, ◌*◌, ◌<◌, ◌≤◌, ◌≡◌, Bool, true, false, not, ◌&&◌, ◌||◌, List, [], ◌∷◌, ◌++◌, ◌⊎◌, length, get_or, set, take, eqb}
+use Rattle.std.specs.Prelude.{ℕ, Option, Some, None, ◌+◌, ◌*◌, ◌<◌, ◌≤◌, ◌≡◌, Bool, true, false, not, ◌&&◌, ◌||◌, List, [], ◌∷◌, ◌++◌, ◌⊎◌, length, get_or, set, take, eqb}
 use Rattle.base.specs.Lists.{member, distinct}
 use Rattle.base.specs.Lex.{Less}
 use Rattle.relation_places.specs.Places.{Placed}
@@ -7,8 +7,6 @@ use Rattle.search_sets.specs.Set.{set_at}
 use Rattle.search_admit.specs.Rows.{written_word, words_written, words_up_to, words_with, replaced_with, words_after}
 use Rattle.search_admit.specs.Fits.{due_after, due_of, refused, enabled, Tested}
 use Rattle.search_enabled.specs.Affects.{enabled_after}
-use Rattle.search_walk.specs.declared.WalkAnswer.{WalkAnswer}
-use Rattle.search_walk.specs.declared.WalkAnswer.TheVariants.{Next, End}
 
 -- the words of the sets of all levels: three sets of two words for each number of entries from 0 to 128
 abbrev pub levels_length : ℕ
@@ -81,9 +79,9 @@ abbrev pub IsLast : (List ℕ → Bool) → ℕ → List ℕ → Type 0
 IsLast c n xs = (zs : List ℕ) → Passes c n zs → Less xs zs → ⊥
 
 -- what an answer means, from xs
-abbrev pub Means : (List ℕ → Bool) → ℕ → List ℕ → WalkAnswer → List ℕ → Type 0
-Means c n xs (Next k) position = IsNext c n xs (take k position)
-Means c n xs End position = IsLast c n xs
+abbrev pub Means : (List ℕ → Bool) → ℕ → List ℕ → Option ℕ → List ℕ → Type 0
+Means c n xs (Some k) position = IsNext c n xs (take k position)
+Means c n xs None position = IsLast c n xs
 
 -- What is kept of a position of `size` entries: places, sets, words.
 pub record Kept (n : ℕ) (rows position places levels words replaced : List ℕ) (size : ℕ) : Type 0 where
@@ -92,11 +90,11 @@ pub record Kept (n : ℕ) (rows position places levels words replaced : List ℕ
   pub remembered : Remembered rows position words replaced size
 
 -- the position reached is ready to be walked from
-abbrev pub Ready : ℕ → List ℕ → WalkAnswer → List ℕ → List ℕ → List ℕ → List ℕ → List ℕ → Type 0
-Ready n rows (Next k) position places levels words replaced =
+abbrev pub Ready : ℕ → List ℕ → Option ℕ → List ℕ → List ℕ → List ℕ → List ℕ → List ℕ → Type 0
+Ready n rows (Some k) position places levels words replaced =
     (k ≤ n) × (length position ≡ 128) × (length places ≡ 128) × (length words ≡ 128) × Kept n rows position places levels words replaced k
-Ready n rows End position places levels words replaced = Unit {0}
+Ready n rows None position places levels words replaced = Unit {0}
 
-pub record Walked (n : ℕ) (rows xs : List ℕ) (r : WalkAnswer) (position places levels words replaced : List ℕ) : Type 0 where
+pub record Walked (n : ℕ) (rows xs : List ℕ) (r : Option ℕ) (position places levels words replaced : List ℕ) : Type 0 where
   pub ready : Ready n rows r position places levels words replaced
   pub means : (c : List ℕ → Bool) → Tested c n rows → Closed c → c xs ≡ true → Means c n xs r position

@@ -13,13 +13,6 @@ use search_admit::{REPLACED, TABLE, WORDS, is_refused, unwrite, write};
 use search_enabled::{AFFECTED, enabled_after, open_after};
 use search_sets::{Set, at, first, insert, put};
 
-// The length of the next consistent prefix, or that there is none.
-#[derive(Clone, Copy)]
-pub enum WalkAnswer {
-    Next(usize),
-    End,
-}
-
 // The sets of a level, in their order: the operations that stand, those that are enabled behind them, and those of these that are open to follow.
 pub const SETS: usize = 3;
 
@@ -117,7 +110,8 @@ fn remove_entry(
 }
 
 // From the first `size` entries of the position. `levels` has the sets of its first j entries as level j, `places` the places of all entries, `words`
-// what they wrote, and `replaced` the words that each wrote over. The next candidate is the lowest that is open, and not refused.
+// what they wrote, and `replaced` the words that each wrote over. The next candidate is the lowest that is open, and not refused. The answer is the length of the
+// next consistent prefix, or that there is none.
 pub fn walk(
     n: usize,
     position: &mut [u8; Position::LIMIT],
@@ -128,7 +122,7 @@ pub fn walk(
     replaced: &mut [u64; REPLACED],
     rows: &[u64; TABLE],
     affected: &[u64; AFFECTED],
-) -> WalkAnswer
+) -> Option<usize>
     requires kept { (n ≤ 128) × (size < n) × Kept n rows.now position.old places.old levels.old words.old replaced.old size × Affecting n rows.now affected.now }
     requires lengths { (length position.old ≡ 128) × (length places.old ≡ 128) × (length words.old ≡ 128) }
     ensures { Walked n rows.now (take size position.old) result position.new places.new levels.new words.new replaced.new }
@@ -153,12 +147,12 @@ pub fn walk(
                 OperationNo(x),
             ) {
                 position[k] = x as u8;
-                return WalkAnswer::Next(k + 1);
+                return Some(k + 1);
             }
             c = x + 1;
         } else {
             if k == 0 {
-                return WalkAnswer::End;
+                return None;
             }
             k -= 1;
             let removed = remove_entry(position, k, places, words, replaced, rows);
@@ -166,5 +160,5 @@ pub fn walk(
             candidates = at(levels, SETS * k + OPEN);
         }
     }
-    WalkAnswer::End
+    None
 }
