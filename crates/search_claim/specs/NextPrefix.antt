@@ -7,12 +7,13 @@ use Rattle.record_decoded.specs.declared.types.Execution.{Execution}
 use Rattle.record_decoded.specs.Decoded.{execution_of}
 use Rattle.relation_links.specs.declared.operations.Operations.{Operations}
 use Rattle.search_admit.specs.Rows.{RowsMean}
+use Rattle.search_walk.specs.declared.Level.{Level}
 use Rattle.search_walk.specs.Walks.{Means, Walked}
 
 -- From xs, a consistent prefix of an accepted record's execution, the walk's contract is kept over the rows of that execution: r is the answer, and the lists
 -- behind it are what the walk leaves.
 pub record WalkedFrom (bytes : List ℕ) (x : Execution) (t : Operations) (marks : List (List ℕ)) (rows xs : List ℕ) (r : Option ℕ)
-    (position places levels words replaced : List ℕ) : Type 0 where
+    (position places : List ℕ) (levels : List Level) (words replaced : List ℕ) : Type 0 where
   pub accepted : read_all bytes ≡ says (execution_of bytes x)
   pub rows_mean : RowsMean bytes x t marks rows
   pub consists : consistent (execution_of bytes x) xs ≡ true
@@ -22,6 +23,6 @@ pub record WalkedFrom (bytes : List ℕ) (x : Execution) (t : Operations) (marks
 abbrev pub NextPrefix : Type 0
 NextPrefix =
     (bytes : List ℕ) (x : Execution) (t : Operations) (marks : List (List ℕ)) (rows xs : List ℕ) (r : Option ℕ)
-    → (position places levels words replaced : List ℕ)
+    → (position places : List ℕ) (levels : List Level) (words replaced : List ℕ)
     → WalkedFrom bytes x t marks rows xs r position places levels words replaced
     → Means (consistent (execution_of bytes x)) (operations (execution_of bytes x)) xs r position

@@ -8,6 +8,7 @@ use lib.ListN.{length, take}
 use lib.Seq.{length-take-le}
 use Rattle.model.specs.Search.{Outcome, allowed, forbidden, unfinished, search_from}
 use Rattle.search_admit.specs.Fits.{Tested}
+use Rattle.search_walk.specs.declared.Level.{Level}
 use Rattle.search_walk.specs.Walks.{Closed, Passes, Kept, Walked}
 use Rattle.std.specs.Prelude.{Option, Some, None}
 use Rattle.search_resume.specs.Replies.{onward}
@@ -18,7 +19,7 @@ abbrev pub Comes : ℕ → List ℕ → List ℕ → ℕ → Outcome → Type 0
 Comes n rows given allowance o = (c : List ℕ → Bool) → Tested c n rows → Closed c → c given ≡ true → o ≡ search_from n c given allowance
 
 -- The invariant: `made` steps have led to the first k entries.
-pub record Going (n : ℕ) (rows given : List ℕ) (allowance : ℕ) (levels entries places words replaced : List ℕ) (k made : ℕ) : Type 0 where
+pub record Going (n : ℕ) (rows given : List ℕ) (allowance : ℕ) (levels : List Level) (entries places words replaced : List ℕ) (k made : ℕ) : Type 0 where
   pub few : n ≤ 128
   pub room : k < n
   pub allows : made ≤ allowance
@@ -29,7 +30,7 @@ pub record Going (n : ℕ) (rows given : List ℕ) (allowance : ℕ) (levels ent
   pub rest : (c : List ℕ → Bool) → Tested c n rows → Closed c → c given ≡ true
       → Passes c n (take k entries) × (search_from n c given allowance ≡ onward made given (search_from n c (take k entries) (allowance - made)))
 
-pub going_starts : {n : ℕ} {rows : List ℕ} {allowance : ℕ} {levels entries places words replaced : List ℕ} {k : ℕ} → n ≤ 128 → k < n → length entries ≡ 128
+pub going_starts : {n : ℕ} {rows : List ℕ} {allowance : ℕ} {levels : List Level} {entries places words replaced : List ℕ} {k : ℕ} → n ≤ 128 → k < n → length entries ≡ 128
     → length places ≡ 128 → length words ≡ 128 → Kept n rows entries places levels words replaced k
     → Going n rows (take k entries) allowance levels entries places words replaced k 0
 going_starts {n} {rows} {allowance} {levels} {entries} {k = k} f r w l v h = record {
@@ -47,8 +48,8 @@ going_starts {n} {rows} {allowance} {levels} {entries} {k = k} f r w l v h = rec
   );
 }
 
-module _ {n : ℕ} {rows given : List ℕ} {allowance : ℕ} {levels entries places words replaced : List ℕ} {k made : ℕ} (inv : Going n rows given allowance levels entries places words replaced k made)
-    {r : Option ℕ} {entries' places' levels' words' replaced' : List ℕ} (walked : Walked n rows (take k entries) r entries' places' levels' words' replaced') where
+module _ {n : ℕ} {rows given : List ℕ} {allowance : ℕ} {levels : List Level} {entries places words replaced : List ℕ} {k made : ℕ} (inv : Going n rows given allowance levels entries places words replaced k made)
+    {r : Option ℕ} {entries' places' : List ℕ} {levels' : List Level} {words' replaced' : List ℕ} (walked : Walked n rows (take k entries) r entries' places' levels' words' replaced') where
   short : length (take k entries) < n
   short = omega (arith, inv.room, length-take-le k entries (omega (arith, inv.room, inv.few, inv.whole)))
 

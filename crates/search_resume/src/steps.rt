@@ -13,7 +13,8 @@ use record_decoded::types::copy_bytes;
 use relation_places::ABSENT;
 use search_admit::{REPLACED, TABLE, WORDS};
 use search_enabled::AFFECTED;
-use search_walk::{LEVELS, walk};
+use search_sets::Set;
+use search_walk::{LEVELS, Level, walk};
 
 #[derive(Clone, Copy, Debug, PartialEq, Eq)]
 pub enum Verdict {
@@ -45,12 +46,12 @@ fn make_steps(
     n: usize,
     given: Position,
     places: &mut [u8; Position::LIMIT],
-    levels: &mut [u64; LEVELS],
+    levels: &mut [Level; LEVELS],
     words: &mut [u64; WORDS],
     replaced: &mut [u64; REPLACED],
     allowance: u32,
     rows: &[u64; TABLE],
-    affected: &[u64; AFFECTED],
+    affected: &[Set; AFFECTED],
 ) -> Outcome
     requires kept { (n ≤ 128) × (given.length < n) × Kept n rows.now given.entries places.old levels.old words.old replaced.old given.length × Affecting n rows.now affected.now }
     requires lengths { (ListN.length given.entries ≡ 128) × (ListN.length places.old ≡ 128) × (ListN.length words.old ≡ 128) }
@@ -109,7 +110,7 @@ pub fn search_from(
     given: Position,
     allowance: u32,
     rows: &[u64; TABLE],
-    affected: &[u64; AFFECTED],
+    affected: &[Set; AFFECTED],
 ) -> Option<Outcome>
     requires { (n ≤ 128) × (given.length ≤ n) × (distinct n [] (position_of given) ≡ true) × (ListN.length given.entries ≡ 128) × Affecting n rows.now affected.now }
     ensures { SearchedFrom n rows.now (position_of given) allowance result }
@@ -118,7 +119,7 @@ pub fn search_from(
     let length = given.length;
     let mut places = [ABSENT; Position::LIMIT];
     let mut words = [0u64; WORDS];
-    let mut levels = [0u64; LEVELS];
+    let mut levels = [Level::EMPTY; LEVELS];
     let mut replaced = [0u64; REPLACED];
     first_level(n, rows, &mut levels);
     if !replay(

@@ -2,17 +2,11 @@
 use Rattle.search_resume.proofs.ReplayLaws.{kept_none}
 use Rattle.search_resume.proofs.Onward.{onward_done}
 use Rattle.record_decoded.specs.Positions.{position_of}
-use lib.ListN.{get_or-replicate, length-replicate}
 use lib.Seq.{length-take-le}
 use mathlib.Core.Path.{refl, sym, ◌∙◌}
 use native.Mathlib.Omega.{arith}
-use Prim.Native.Nat.{ℕ}
 use borrow.Author.Rules.{rules}
 use Rattle.search_resume.proofs.steps.search_from.Goals as goal
-
-pub first_level-requires : goal.first_level-requires
-first_level-requires c =
-    (c.requires.0, get_or-replicate 774 0 0 0 (omega arith), get_or-replicate 774 1 0 0 (omega arith), length-replicate {A = ℕ} 774 0)
 
 pub replay-requires : goal.replay-requires
 replay-requires c =
