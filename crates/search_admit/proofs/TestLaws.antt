@@ -16,7 +16,7 @@ use Rattle.relation_places.specs.Places.{before_by}
 use Rattle.search_sets.specs.Set.{holds}
 use Rattle.search_sets.proofs.Bit.{has_and, has_or}
 use Rattle.search_sets.proofs.Laws.{has_minus, has_xor, zero_has, bits_zero}
-use Rattle.search_sets.proofs.Members.{any_skips}
+use Rattle.search_sets.proofs.Loops.{any_skips}
 use Rattle.search_admit.specs.Rows.{field, awaited, bypasses, written_bits, written_data, written_word, words_written, read_bits, read_data, visible_word, own_word, words_read, own_of, local_of, read_of, writes_bit, merged, word_over, words_up_to, words_with, replaced_up_to, words_back}
 use Rattle.search_admit.specs.Fits.{both_or_neither, bit_agrees, waits_for, refused, pending, local_bit, word_recorded, reads_recorded}
 

@@ -11,7 +11,7 @@ ghost use Rattle.search_admit.specs.Fits.{both_or_neither, waits_for, refused, l
 use record_decoded::position::Position;
 use record_decoded::types::OperationNo;
 use relation_places::before;
-use search_sets::{BOUND, Set, first, has, minus, subset};
+use search_sets::Set;
 
 // The words of a row, in their order: what is read of an operation as it is entered, then what is read where it is asked whether it is enabled. Each is mostly one
 // line of the processor's cache.
@@ -129,13 +129,10 @@ fn waits_for_any(
     requires { x.0 < 128 }
     ensures { result ≡ any_below 128 (λ (m : ℕ). holds missing.lo missing.hi m && waits_for rows.now places.now x.0 m) }
 {
-    let mut m = first(missing, 0);
-    while m < BOUND {
+    for m in missing.members() {
         if waits_for(rows, places, x, OperationNo(m)) {
             return true;
         }
-        let from = m + 1;
-        m = first(missing, from);
     }
     false
 }
@@ -151,10 +148,10 @@ pub fn is_refused(
     ensures { result ≡ refused rows.now places.now stand.lo stand.hi x.0 }
 {
     let awaited = set_of(rows, x, AWAITED);
-    if subset(awaited, stand) {
+    if awaited.is_subset(stand) {
         return false;
     }
-    waits_for_any(rows, places, minus(awaited, stand), x)
+    waits_for_any(rows, places, awaited - stand, x)
 }
 
 // The bits that operation m writes to a word of memory.
@@ -180,7 +177,7 @@ fn bits_of(rows: &[u64; TABLE], stand: Set, m: OperationNo, word: usize) -> u64
     if local >= Position::LIMIT {
         return 0;
     }
-    if !has(stand, local) {
+    if !stand.has(local) {
         return 0;
     }
     bits_at(rows, m, word)
@@ -191,11 +188,8 @@ fn pending_bits(rows: &[u64; TABLE], stand: Set, missing: Set, word: usize) -> u
     ensures { (i : ℕ) → bit result i ≡ any_below 128 (λ (m : ℕ). holds missing.lo missing.hi m && (ltb (local_of rows.now m) 128 && holds stand.lo stand.hi (local_of rows.now m) && writes_bit rows.now word m i)) }
 {
     let mut bits = 0;
-    let mut m = first(missing, 0);
-    while m < BOUND {
+    for m in missing.members() {
         bits |= bits_of(rows, stand, OperationNo(m), word);
-        let from = m + 1;
-        m = first(missing, from);
     }
     bits
 }
@@ -206,7 +200,7 @@ fn local_bits(rows: &[u64; TABLE], stand: Set, x: OperationNo, h: usize, visible
     ensures { (i : ℕ) → bit result i ≡ local_bit rows.now stand.lo stand.hi h x.0 i }
 {
     let stores = set_of(rows, x, BYPASSES);
-    pending_bits(rows, stand, minus(stores, stand), visible)
+    pending_bits(rows, stand, stores - stand, visible)
 }
 
 // Whether what is seen, of `own` where `local` is set and of `visible` elsewhere, is `data` in some bits.
@@ -276,7 +270,7 @@ fn reads_right(rows: &[u64; TABLE], words: &[u64; WORDS], stand: Set, x: Operati
         return true;
     }
     if field_of(rows, x, READ_BITS + 1) == 0 {
-        if subset(set_of(rows, x, BYPASSES), stand) {
+        if set_of(rows, x, BYPASSES).is_subset(stand) {
             let visible = word_of(rows, x, VISIBLE_WORD, 0);
             return reads_word(rows, words, x, 0, visible, 0);
         }
@@ -289,7 +283,7 @@ pub fn is_enabled(rows: &[u64; TABLE], words: &[u64; WORDS], stand: Set, x: Oper
     requires { x.0 < 128 }
     ensures { result ≡ enabled rows.now stand.lo stand.hi words.now x.0 }
 {
-    if !subset(set_of(rows, x, PREDS), stand) {
+    if !set_of(rows, x, PREDS).is_subset(stand) {
         return false;
     }
     reads_right(rows, words, stand, x)
@@ -300,8 +294,8 @@ pub fn is_enabled_first(rows: &[u64; TABLE], words: &[u64; WORDS], x: OperationN
     requires { x.0 < 128 }
     ensures { result ≡ enabled rows.now 0 0 words.now x.0 }
 {
-    let none = Set { lo: 0, hi: 0 };
-    if !subset(set_of(rows, x, PREDS), none) {
+    let none = Set::EMPTY;
+    if !set_of(rows, x, PREDS).is_subset(none) {
         return false;
     }
     reads_words(rows, words, none, x)

@@ -77,20 +77,14 @@ fn search_on(
     put_rows(bytes, x, t, marks, &mut rows);
     let given = saved_position(buffer, saved);
     let affected = affected_by(n, &rows);
-    let outcome = search_from(n, given, allowance, &rows, &affected);
-    let consistent = outcome.consistent;
-    let verdict = outcome.verdict;
-    let steps = outcome.steps;
-    let position = outcome.position;
-    if !consistent {
+    let Some(outcome) = search_from(n, given, allowance, &rows, &affected) else {
         return refused(21, saved);
-    }
-    let length = position.length;
-    write_position(buffer, position);
+    };
+    write_position(buffer, outcome.position);
     SearchReply {
-        answer: answer_of(verdict),
-        steps,
-        length,
+        answer: answer_of(outcome.verdict),
+        steps: outcome.steps,
+        length: outcome.position.length,
     }
 }
 

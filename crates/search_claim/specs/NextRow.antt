@@ -1,12 +1,11 @@
 -- Rows that meet the hypotheses of `NextPrefix`, of K2: one processor, st x=1, ld x sees 0. Its consistent prefixes are the empty one, 0 and 0 1, in this
 -- order, and none of them is full.
-use Rattle.std.specs.Prelude.{ℕ, ◌*◌, ◌-◌, List, [], ◌∷◌, ◌++◌, set, replicate}
+use Rattle.std.specs.Prelude.{ℕ, Some, None, ◌*◌, ◌-◌, List, [], ◌∷◌, ◌++◌, set, replicate}
 use Rattle.model.specs.PaperTable.{k2}
 use Rattle.record_decoded.specs.declared.types.Execution.{Execution}
 use Rattle.relation_links.specs.declared.operations.Operations.{Operations}
 use Rattle.search_admit.specs.Rows.{row_length, table_length}
-use Rattle.search_walk.specs.declared.WalkAnswer.TheVariants.{Next, End}
-use Rattle.search_walk.specs.Walks.{levels_length}
+use Rattle.search_walk.specs.declared.Level.{Level}
 use Rattle.search_claim.specs.NextPrefix.{WalkedFrom}
 
 -- What is made of K2
@@ -59,15 +58,19 @@ next_position = 0 ∷ 1 ∷ replicate 126 0
 abbrev pub next_places : List ℕ
 next_places = 0 ∷ 1 ∷ replicate 126 255
 
--- A level of six words for each of the prefixes, the empty one, 0 and 0 1, then zeros. Of each the set that stands, the set that is enabled behind it and the
--- set that may follow, two words a set: first 0 may follow, then 1, then nothing. The R is enabled behind neither 0 nor 0 1: it would read 1, behind 0 from its
--- own processor's word 64 and behind 0 1 from word 0.
-abbrev pub next_levels : List ℕ
-next_levels =
-    (0 ∷ 0 ∷ 1 ∷ 0 ∷ 1 ∷ 0 ∷ [])
-    ++ (1 ∷ 0 ∷ 2 ∷ 0 ∷ 2 ∷ 0 ∷ [])
-    ++ (3 ∷ 0 ∷ 0 ∷ 0 ∷ 0 ∷ 0 ∷ [])
-    ++ replicate (levels_length - 3 * 6) 0
+-- a level of small sets, by the low word of each
+abbrev pub small : ℕ → ℕ → ℕ → Level
+small standing enabled candidates = record {
+  standing = record { lo = standing; hi = 0 };
+  enabled = record { lo = enabled; hi = 0 };
+  candidates = record { lo = candidates; hi = 0 };
+}
+
+-- A level for each of the prefixes, the empty one, 0 and 0 1, then empty ones. Of each the set that stands, the set that is enabled behind it and the set that may
+-- follow: first 0 may follow, then 1, then nothing. The R is enabled behind neither 0 nor 0 1: it would read 1, behind 0 from its own processor's word 64 and
+-- behind 0 1 from word 0.
+abbrev pub next_levels : List Level
+next_levels = small 0 1 1 ∷ small 1 2 2 ∷ small 3 0 0 ∷ replicate 126 (small 0 0 0)
 
 -- the LV wrote its byte to word 64, the RV to word 0
 abbrev pub next_words : List ℕ
@@ -79,9 +82,9 @@ next_replaced = replicate 256 0
 
 -- From 0 the walk comes to 0 1, which the claim then says is the next.
 abbrev pub NextRow : Type 0
-NextRow = WalkedFrom k2 k2_arrays k2_operations k2_marks k2_rows (0 ∷ []) (Next 2) next_position next_places next_levels next_words next_replaced
+NextRow = WalkedFrom k2 k2_arrays k2_operations k2_marks k2_rows (0 ∷ []) (Some 2) next_position next_places next_levels next_words next_replaced
 
 -- From 0 1 it comes to the end: the claim says that none comes after. Both entries are taken back, so that no place and no word of theirs is left; the rest
 -- stays. (What the walk leaves at the end is not asked.)
 abbrev pub EndRow : Type 0
-EndRow = WalkedFrom k2 k2_arrays k2_operations k2_marks k2_rows (0 ∷ 1 ∷ []) End next_position (replicate 128 255) next_levels (replicate 128 0) next_replaced
+EndRow = WalkedFrom k2 k2_arrays k2_operations k2_marks k2_rows (0 ∷ 1 ∷ []) None next_position (replicate 128 255) next_levels (replicate 128 0) next_replaced

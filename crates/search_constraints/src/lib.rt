@@ -21,7 +21,7 @@ use relation_marks::table::{
     ATOMIC, BYPASS, CONFLICT, FENCE, LINK_MARKS, RELEASE, REMOTE_LINK_MARKS, SAME, both, has_mark,
     overlaps,
 };
-use search_sets::{Set, insert_if};
+use search_sets::Set;
 
 // A set, with all RVs of a store, by its kind and its first operation.
 fn with_every_remote(set: Set, kind: Kind, first: OperationNo, processors: usize) -> Set
@@ -31,7 +31,7 @@ fn with_every_remote(set: Set, kind: Kind, first: OperationNo, processors: usize
     let mut more = set;
     for to in 0..processors {
         let rv = number_of(first, kind, Role::RV(to));
-        more = insert_if(more, rv.0, true);
+        more = more.insert_if(rv.0, true);
     }
     more
 }
@@ -60,11 +60,11 @@ fn with_remotes(
     let own = wide(processor);
     let to_other = both(has_mark(marks, SAME), to != processor);
     let own_rv = number_of(first, kind, Role::RV(own));
-    let by_own = insert_if(set, own_rv.0, both(to_other, own < processors));
+    let by_own = set.insert_if(own_rv.0, both(to_other, own < processors));
     let same = wide(to);
     let same_rv = number_of(first, kind, Role::RV(same));
     let released = has_mark(marks, RELEASE);
-    insert_if(by_own, same_rv.0, both(released, same < processors))
+    by_own.insert_if(same_rv.0, both(released, same < processors))
 }
 
 // Whether no operation is linked to one with a role, by the marks of their instructions.
@@ -88,7 +88,7 @@ fn with_local(set: Set, marks: u16, kind: Kind, processor: u8, first: OperationN
     let mut more = set;
     for place in 0..n {
         let linked = is_linked(marks, processor, role_of(kind, place as u8), role);
-        more = insert_if(more, from + place, linked);
+        more = more.insert_if(from + place, linked);
     }
     more
 }
@@ -130,7 +130,7 @@ pub fn preds_at<'a>(
     requires { (n ≤ 40) × (every ≤ 8) × (w.0 < 40) }
     ensures { (a : ℕ) → a < 128 → holds result.lo result.hi a ≡ any_below n (λ (v : ℕ). linked_of every kinds.now firsts.now processors.now marks.now w.0 role v a) }
 {
-    let mut set = Set { lo: 0, hi: 0 };
+    let mut set = Set::EMPTY;
     let to = w.0;
     for v in 0..n {
         let first = wide16(firsts[v]);
@@ -155,7 +155,7 @@ pub fn partners_at(marks: u16, role: u8, kind: Kind, first: OperationNo, process
     requires { (first.0 < 65536) × (processors ≤ 8) }
     ensures { (a : ℕ) → a < 128 → holds result.lo result.hi a ≡ partner_of marks role (meant kind) first.0 processors a }
 {
-    let none = Set { lo: 0, hi: 0 };
+    let none = Set::EMPTY;
     if role < ROLE_RV {
         return none;
     }
@@ -179,14 +179,14 @@ fn with_awaited(
 {
     if role == ROLE_R {
         let own = number_of(first, kind, Role::RV(processor));
-        return insert_if(set, own.0, has_mark(marks, BYPASS));
+        return set.insert_if(own.0, has_mark(marks, BYPASS));
     }
     if role < ROLE_RV {
         return set;
     }
     let to = wide(role - ROLE_RV);
     let remote = number_of(first, kind, Role::RV(to));
-    insert_if(set, remote.0, has_mark(marks, CONFLICT))
+    set.insert_if(remote.0, has_mark(marks, CONFLICT))
 }
 
 // The operations for which one of instruction w with a role may have to wait by rules 9, 10, 14 and 16.
@@ -202,7 +202,7 @@ pub fn awaited_at<'a>(
     requires { (n ≤ 40) × (w.0 < 40) }
     ensures { (a : ℕ) → a < 128 → holds result.lo result.hi a ≡ any_below n (λ (v : ℕ). awaited_by (mark_at marks.now v w.0) role (kind_of (get_or kinds.now v 0)) (get_or firsts.now v 0) (get_or processors.now v 0) a) }
 {
-    let mut set = Set { lo: 0, hi: 0 };
+    let mut set = Set::EMPTY;
     let to = w.0;
     for v in 0..n {
         let kind = kind_of(kinds[v]);
@@ -235,7 +235,7 @@ pub fn bypasses_at<'a>(
     requires { (n ≤ 40) × (w.0 < 40) }
     ensures { (a : ℕ) → a < 128 → holds result.lo result.hi a ≡ any_below n (λ (v : ℕ). eqb role 0 && (own_store_by kinds.now processors.now addresses.now sizes.now w.0 v && eqb a (number_from (get_or firsts.now v 0) (kind_of (get_or kinds.now v 0)) (RV (get_or processors.now v 0))))) }
 {
-    let mut set = Set { lo: 0, hi: 0 };
+    let mut set = Set::EMPTY;
     if role != ROLE_R {
         return set;
     }
@@ -251,7 +251,7 @@ pub fn bypasses_at<'a>(
         let first = wide16(firsts[v]);
         let to = wide(processor);
         let own_rv = number_of(OperationNo(first), kind, Role::RV(to));
-        set = insert_if(set, own_rv.0, wanted);
+        set = set.insert_if(own_rv.0, wanted);
     }
     set
 }

@@ -1,34 +1,35 @@
 -- What the sets of enabled operations come to.
-use Prim.Native.Nat.{ℕ, ◌+◌, ◌*◌, ◌%◌, ◌<◌}
+use Prim.Native.Nat.{ℕ, ◌+◌, ◌%◌, ◌<◌}
 use native.Mathlib.Omega.{arith}
 use native.Mathlib.Decide.{ℕ_discrete}
 use native.Mathlib.Numerals.{add-one}
 use mathlib.Core.Path.{◌≡◌, refl, sym, ap, ap₂, ◌∙◌}
 use mathlib.Core.Bool.{Bool, true, false, not, cond, ◌&&◌, ◌||◌, and-true, and-false, or-false, or_assoc, false≢true}
 use mathlib.Core.List.{List}
-use lib.ListN.{length, get_or, replicate, get_or-replicate}
+use lib.ListN.{length, set, replicate, get_or-replicate}
 use lib.Dec.{eqb, ltb}
 use borrow.Author.Tests.{eq-eqb, ne_eqb, ltb-true, lt-ltb, le-ltb}
 use Rattle.base.specs.Below.{all_below, any_below}
 use Rattle.base.proofs.Bools.{agree}
 use Rattle.base.proofs.Tests.{all_at, all_below_lem}
-use Rattle.search_sets.specs.Set.{holds, set_at}
-use Rattle.search_sets.proofs.Members.{holds_none}
-use Rattle.search_sets.proofs.Tables.{put_at, put_here, put_other}
+use Rattle.search_sets.specs.Set.{holds}
+use Rattle.search_sets.specs.Tables.{none, set_at}
+use Rattle.search_sets.specs.declared.Set.{Set}
+use Rattle.search_sets.proofs.Loops.{holds_none}
+use Rattle.search_sets.proofs.Tables.{put_here, put_other}
 use Rattle.search_admit.specs.Rows.{field, precedes, partner_by, bypasses, written_bits, written_word, visible_word, words_read, local_of}
 use Rattle.search_admit.specs.Fits.{enabled, due_after}
 use Rattle.search_admit.proofs.TestLaws.{writes_one, writes_two}
 use Rattle.search_enabled.specs.Affects.{writes_at, writes_word_of, local_to, affects, enabled_after}
 
 -- those that x does not affect, and those that are asked anew
-pub after_is : (rows affected words : List ℕ) (elo ehi lo hi x y tlo thi alo ahi klo khi wlo whi : ℕ) → tlo ≡ get_or affected (2 * x) 0 → thi ≡ get_or affected (2 * x + 1) 0
-    → holds alo ahi y ≡ (holds tlo thi y && not (holds lo hi y)) → holds klo khi y ≡ (holds elo ehi y && not (holds tlo thi y))
+pub after_is : (rows : List ℕ) (affected : List Set) (words : List ℕ) (elo ehi lo hi x y alo ahi klo khi wlo whi : ℕ)
+    → holds alo ahi y ≡ (set_at affected x y && not (holds lo hi y)) → holds klo khi y ≡ (holds elo ehi y && not (set_at affected x y))
     → holds wlo whi y ≡ (holds klo khi y && not (holds lo hi y))
     → (holds wlo whi y || (holds alo ahi y && enabled rows lo hi words y)) ≡ enabled_after rows affected words elo ehi lo hi x y
-after_is rows affected words elo ehi lo hi x y tlo thi alo ahi klo khi wlo whi a b again kept all =
+after_is rows affected words elo ehi lo hi x y alo ahi klo khi wlo whi again kept all =
     ap₂ (λ (p q : Bool). p || (q && enabled rows lo hi words y)) (all ∙ ap (λ (p : Bool). p && not (holds lo hi y)) kept) again
-    ∙ go (holds elo ehi y) (holds tlo thi y) (holds lo hi y) (enabled rows lo hi words y)
-    ∙ ap₂ (λ (u v : ℕ). not (holds lo hi y) && cond (holds u v y) (enabled rows lo hi words y) (holds elo ehi y)) a b
+    ∙ go (holds elo ehi y) (set_at affected x y) (holds lo hi y) (enabled rows lo hi words y)
   where
     go : (e t s n : Bool) → (((e && not t) && not s) || ((t && not s) && n)) ≡ (not s && cond t n e)
     go true true true n = refl
@@ -41,13 +42,12 @@ after_is rows affected words elo ehi lo hi x y tlo thi alo ahi klo khi wlo whi a
     go false false false n = refl
 
 -- all that x affects stand already
-pub after_none : (rows affected words : List ℕ) (elo ehi lo hi x y tlo thi klo khi wlo whi : ℕ) {r : Bool} → y < 128 → tlo ≡ get_or affected (2 * x) 0 → thi ≡ get_or affected (2 * x + 1) 0
-    → holds klo khi y ≡ (holds elo ehi y && not (holds tlo thi y)) → holds wlo whi y ≡ (holds klo khi y && not (holds lo hi y))
-    → r ≡ all_below 128 (λ k. not (holds tlo thi k) || holds lo hi k) → r ≡ true → holds wlo whi y ≡ enabled_after rows affected words elo ehi lo hi x y
-after_none rows affected words elo ehi lo hi x y tlo thi klo khi wlo whi l a b kept all stand h =
+pub after_none : (rows : List ℕ) (affected : List Set) (words : List ℕ) (elo ehi lo hi x y klo khi wlo whi : ℕ) {r : Bool} → y < 128
+    → holds klo khi y ≡ (holds elo ehi y && not (set_at affected x y)) → holds wlo whi y ≡ (holds klo khi y && not (holds lo hi y))
+    → r ≡ all_below 128 (λ k. not (set_at affected x k) || holds lo hi k) → r ≡ true → holds wlo whi y ≡ enabled_after rows affected words elo ehi lo hi x y
+after_none rows affected words elo ehi lo hi x y klo khi wlo whi l kept all stand h =
     all ∙ ap (λ (p : Bool). p && not (holds lo hi y)) kept
-    ∙ go (holds elo ehi y) (holds tlo thi y) (holds lo hi y) (enabled rows lo hi words y) (all_at (λ k. not (holds tlo thi k) || holds lo hi k) 128 (sym stand ∙ h) y l)
-    ∙ ap₂ (λ (u v : ℕ). not (holds lo hi y) && cond (holds u v y) (enabled rows lo hi words y) (holds elo ehi y)) a b
+    ∙ go (holds elo ehi y) (set_at affected x y) (holds lo hi y) (enabled rows lo hi words y) (all_at (λ k. not (set_at affected x k) || holds lo hi k) 128 (sym stand ∙ h) y l)
   where
     go : (e t s n : Bool) → (not t || s) ≡ true → ((e && not t) && not s) ≡ (not s && cond t n e)
     go true true true n q = refl
@@ -84,18 +84,17 @@ no_partners plo phi lo hi e t =
     go false s z n h = refl
 
 -- a table of sets, one of them with one member more
-pub set_more : (t : List ℕ) (a y lo hi slo shi k : ℕ) → 2 * a + 1 < length t → slo ≡ get_or t (2 * a) 0 → shi ≡ get_or t (2 * a + 1) 0
-    → ((i : ℕ) → holds lo hi i ≡ (holds slo shi i || eqb i y)) → (b : ℕ) → set_at (put_at t a lo hi) b k ≡ (set_at t b k || (eqb k y && eqb b a))
-set_more t a y lo hi slo shi k long low high more b = go (ℕ_discrete b a)
+pub set_more : (t : List Set) (a y : ℕ) (s : Set) (k : ℕ) → a < length t → ((i : ℕ) → holds s.lo s.hi i ≡ (set_at t a i || eqb i y))
+    → (b : ℕ) → set_at (set t a s) b k ≡ (set_at t b k || (eqb k y && eqb b a))
+set_more t a y s k long more b = go (ℕ_discrete b a)
   where
-    go : Dec (b ≡ a) → set_at (put_at t a lo hi) b k ≡ (set_at t b k || (eqb k y && eqb b a))
+    go : Dec (b ≡ a) → set_at (set t a s) b k ≡ (set_at t b k || (eqb k y && eqb b a))
     go (yes e) =
         rw e
-        (put_here t a lo hi (omega arith) k ∙ more k
-        ∙ ap₂ (λ (u v : ℕ). holds u v k || eqb k y) low high
+        (put_here t a s long k ∙ more k
         ∙ ap (λ (d : Bool). set_at t a k || d) (sym (ap (λ (d : Bool). eqb k y && d) (eq-eqb a a refl) ∙ and-true (eqb k y))))
     go (no e) =
-        put_other t a lo hi b e k
+        put_other t a s b e k
         ∙ sym (ap (λ (d : Bool). set_at t b k || d) (ap (λ (d : Bool). eqb k y && d) (ne_eqb b a e) ∙ and-false (eqb k y)) ∙ or-false (set_at t b k))
 
 -- what affects y, by the sets that it is made of
@@ -141,8 +140,8 @@ module _ (rows : List ℕ) (a p k : ℕ) (s : Bool) {first : ℕ} (is : first �
       both false false v e = refl
 
 -- tables of empty sets
-pub empty_at : (n p k : ℕ) → 2 * p + 1 < n → set_at (replicate n 0) p k ≡ false
-empty_at n p k l = ap₂ (λ (u v : ℕ). holds u v k) (get_or-replicate n (2 * p) 0 0 (omega arith)) (get_or-replicate n (2 * p + 1) 0 0 (omega arith)) ∙ holds_none k
+pub empty_at : (n p k : ℕ) → p < n → set_at (replicate n none) p k ≡ false
+empty_at n p k l = ap (λ (s : Set). holds s.lo s.hi k) (get_or-replicate n p none none l) ∙ holds_none k
 
 -- those that write one word more
 pub writers_none : (p : ℕ → Bool) (s : Bool) → s ≡ (s || any_below 0 p)

@@ -12,7 +12,9 @@ use Rattle.base.specs.Below.{all_below}
 use Rattle.base.specs.Bits.{bit}
 use Rattle.base.proofs.Bools.{split, and_both}
 use Rattle.base.proofs.Tests.{all_same, any_passes, any_below_same, none_at}
-use Rattle.search_sets.specs.Set.{holds, set_at}
+use Rattle.search_sets.specs.Set.{holds}
+use Rattle.search_sets.specs.Tables.{set_at}
+use Rattle.search_sets.specs.declared.Set.{Set}
 use Rattle.search_admit.specs.Rows.{precedes, bypasses, written_word, words_written, read_bits, read_data, visible_word, own_word, words_read, local_of, writes_bit, words_up_to, words_with}
 use Rattle.search_admit.specs.Fits.{both_or_neither, ready, pending, local_bit, word_recorded, reads_recorded, enabled}
 use Rattle.search_enabled.specs.Affects.{writes_at, writes_word_of, local_to, affects, Affecting, enabled_after}
@@ -98,7 +100,7 @@ module _ (rows : List ℕ) (x y lo hi lo' hi' : ℕ) (more : (k : ℕ) → holds
       reads n = sym (ap (λ (b : Bool). not b && ((bypasses rows y x || local_to rows x y) || writes_word_of rows x y)) n) ∙ parts.1
 
 -- the enabled operations behind one entry more are those that the table gives
-pub enabled_more : {n : ℕ} (rows affected : List ℕ) → Affecting n rows affected → (words : List ℕ) (elo ehi lo hi lo' hi' x y : ℕ) → x < n → y < n
+pub enabled_more : {n : ℕ} (rows : List ℕ) (affected : List Set) → Affecting n rows affected → (words : List ℕ) (elo ehi lo hi lo' hi' x y : ℕ) → x < n → y < n
     → ((k : ℕ) → holds lo' hi' k ≡ (holds lo hi k || eqb k x)) → holds elo ehi y ≡ (not (holds lo hi y) && enabled rows lo hi words y)
     → enabled_after rows affected (words_with rows words x) elo ehi lo' hi' x y ≡ (not (holds lo' hi' y) && enabled rows lo' hi' (words_with rows words x) y)
 enabled_more {n} rows affected m words elo ehi lo hi lo' hi' x y lx ly more was = split (set_at affected x y)

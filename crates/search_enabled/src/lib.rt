@@ -1,9 +1,10 @@
 // The operations that are enabled behind a prefix, kept up entry by entry.
 #![tactic(auto)]
 
-ghost use Rattle.std.specs.Prelude.{◌≡◌, true, ◌&&◌, ◌||◌, ℕ, ◌%◌, ◌<◌, ◌≤◌, length, eqb};
+ghost use Rattle.std.specs.Prelude.{◌≡◌, true, ◌&&◌, ◌||◌, ℕ, ◌%◌, ◌<◌, ◌≤◌, eqb};
 ghost use Rattle.base.specs.Below.{any_below};
-ghost use Rattle.search_sets.specs.Set.{holds, set_at};
+ghost use Rattle.search_sets.specs.Set.{holds};
+ghost use Rattle.search_sets.specs.Tables.{set_at};
 ghost use Rattle.search_admit.specs.Rows.{visible_word, local_of, first_words};
 ghost use Rattle.search_admit.specs.Fits.{enabled, due_after};
 ghost use Rattle.search_enabled.specs.Affects.{reads, writes_at, Writing, affects, Affecting, enabled_after};
@@ -14,43 +15,39 @@ use search_admit::{
     BYPASSES, LOCAL, PARTNERS, PREDS, TABLE, VISIBLE_WORD, WORDS, WRITTEN_BITS, WRITTEN_WORD,
     field_of, is_enabled, is_enabled_first, set_of, word_of, words_read,
 };
-use search_sets::{BOUND, Set, at, common, first, insert, insert_if, minus, put, subset, union};
+use search_sets::Set;
 
-// The words of a table of sets, one for each operation.
-pub const AFFECTED: usize = 2 * Position::LIMIT;
+// A set for each operation.
+pub const AFFECTED: usize = Position::LIMIT;
 
-// The words of a table of sets, one for each line as a processor sees it: there are half as many of these as words of memory.
-const WRITERS: usize = WORDS;
+// A set for each line as a processor sees it: there are half as many of these as words of memory.
+const WRITERS: usize = WORDS / 2;
 
 // A set, with the LVs of stores that are given by their own RVs.
 fn with_locals(set: Set, rows: &[u64; TABLE], stores: Set) -> Set
     ensures { (a : ℕ) → a < 128 → holds result.lo result.hi a ≡ (holds set.lo set.hi a || any_below 128 (λ (m : ℕ). holds stores.lo stores.hi m && eqb (local_of rows.now m) a)) }
 {
     let mut all = set;
-    let mut m = first(stores, 0);
-    while m < BOUND {
+    for m in stores.members() {
         let local = field_of(rows, OperationNo(m), LOCAL) as usize;
-        all = insert_if(all, local, true);
-        let from = m + 1;
-        m = first(stores, from);
+        all = all.insert_if(local, true);
     }
     all
 }
 
 // Puts operation a into the set of the line and processor that a word of memory is for: of the word that is visible there, and 64 places on of the own stores'.
-fn put_writer(writers: &mut [u64], word: usize, a: OperationNo)
-    requires { (word < 128) × (a.0 < 128) × (length writers.old ≡ 128) }
-    ensures { ((p k : ℕ) → set_at writers.new p k ≡ (set_at writers.old p k || (eqb p (word % 64) && eqb k a.0))) × (length writers.new ≡ 128) }
+fn put_writer(writers: &mut [Set; WRITERS], word: usize, a: OperationNo)
+    requires { (word < 128) × (a.0 < 128) }
+    ensures { (p k : ℕ) → set_at writers.new p k ≡ (set_at writers.old p k || (eqb p (word % 64) && eqb k a.0)) }
 {
-    let place = word % (WORDS / 2);
-    let set = at(writers, place);
-    put(writers, place, insert(set, a.0));
+    let place = word % WRITERS;
+    writers[place] = writers[place].insert(a.0);
 }
 
 // Puts operation a into the sets of the words that it writes.
-fn put_written(writers: &mut [u64], rows: &[u64; TABLE], a: OperationNo)
-    requires { (a.0 < 128) × (length writers.old ≡ 128) }
-    ensures { ((p k : ℕ) → set_at writers.new p k ≡ (set_at writers.old p k || (writes_at rows.now a.0 p && eqb k a.0))) × (length writers.new ≡ 128) }
+fn put_written(writers: &mut [Set; WRITERS], rows: &[u64; TABLE], a: OperationNo)
+    requires { a.0 < 128 }
+    ensures { (p k : ℕ) → set_at writers.new p k ≡ (set_at writers.old p k || (writes_at rows.now a.0 p && eqb k a.0)) }
 {
     put_writer(writers, word_of(rows, a, WRITTEN_WORD, 0), a);
     if field_of(rows, a, WRITTEN_BITS + 1) != 0 {
@@ -59,11 +56,11 @@ fn put_written(writers: &mut [u64], rows: &[u64; TABLE], a: OperationNo)
 }
 
 // For each line and processor the operations of n that write its words.
-fn all_writers(n: usize, rows: &[u64; TABLE]) -> [u64; WRITERS]
+fn all_writers(n: usize, rows: &[u64; TABLE]) -> [Set; WRITERS]
     requires { n ≤ 128 }
     ensures { Writing n rows.now result }
 {
-    let mut writers = [0u64; WRITERS];
+    let mut writers = [Set::EMPTY; WRITERS];
     for a in 0..n {
         put_written(&mut writers, rows, OperationNo(a));
     }
@@ -84,14 +81,14 @@ fn any_reads(n: usize, rows: &[u64; TABLE]) -> bool
 }
 
 // These sets, if one of n operations reads: for no other are they asked for.
-fn writers_for_reads(n: usize, rows: &[u64; TABLE]) -> [u64; WRITERS]
+fn writers_for_reads(n: usize, rows: &[u64; TABLE]) -> [Set; WRITERS]
     requires { n ≤ 128 }
     ensures { (y : ℕ) → y < n → reads rows.now y ≡ true → Writing n rows.now result }
 {
     if any_reads(n, rows) {
         all_writers(n, rows)
     } else {
-        [0u64; WRITERS]
+        [Set::EMPTY; WRITERS]
     }
 }
 
@@ -99,7 +96,7 @@ fn writers_for_reads(n: usize, rows: &[u64; TABLE]) -> [u64; WRITERS]
 fn with_writers(
     set: Set,
     rows: &[u64; TABLE],
-    writers: &[u64; WRITERS],
+    writers: &[Set; WRITERS],
     y: OperationNo,
     count: usize,
 ) -> Set
@@ -108,15 +105,14 @@ fn with_writers(
 {
     let mut all = set;
     for h in 0..count {
-        let place = word_of(rows, y, VISIBLE_WORD, h) % (WORDS / 2);
-        let more = at(writers, place);
-        all = union(all, more);
+        let place = word_of(rows, y, VISIBLE_WORD, h) % WRITERS;
+        all = all | writers[place];
     }
     all
 }
 
 // The operations that may change whether y is enabled, of as many as `writers` has.
-fn all_affecting(rows: &[u64; TABLE], writers: &[u64; WRITERS], y: OperationNo) -> Set
+fn all_affecting(rows: &[u64; TABLE], writers: &[Set; WRITERS], y: OperationNo) -> Set
     requires { y.0 < 128 }
     ensures { (n a : ℕ) → n ≤ 128 → a < n → (reads rows.now y.0 ≡ true → Writing n rows.now writers.now) → holds result.lo result.hi a ≡ affects rows.now a y.0 }
 {
@@ -127,30 +123,26 @@ fn all_affecting(rows: &[u64; TABLE], writers: &[u64; WRITERS], y: OperationNo) 
     }
     let stores = set_of(rows, y, BYPASSES);
     let read = with_locals(stores, rows, stores);
-    union(preds, with_writers(read, rows, writers, y, count))
+    preds | with_writers(read, rows, writers, y, count)
 }
 
 // Puts y into the sets of those that affect it.
-fn put_affected(affected: &mut [u64], affecting: Set, y: OperationNo)
-    requires { (y.0 < 128) × (length affected.old ≡ 256) }
-    ensures { ((a k : ℕ) → a < 128 → set_at affected.new a k ≡ (set_at affected.old a k || (holds affecting.lo affecting.hi a && eqb k y.0))) × (length affected.new ≡ 256) }
+fn put_affected(affected: &mut [Set; AFFECTED], affecting: Set, y: OperationNo)
+    requires { y.0 < 128 }
+    ensures { (a k : ℕ) → a < 128 → set_at affected.new a k ≡ (set_at affected.old a k || (holds affecting.lo affecting.hi a && eqb k y.0)) }
 {
-    let mut a = first(affecting, 0);
-    while a < BOUND {
-        let set = at(affected, a);
-        put(affected, a, insert(set, y.0));
-        let from = a + 1;
-        a = first(affecting, from);
+    for a in affecting.members() {
+        affected[a] = affected[a].insert(y.0);
     }
 }
 
 // For each operation those that it affects.
-pub fn affected_by(n: usize, rows: &[u64; TABLE]) -> [u64; AFFECTED]
+pub fn affected_by(n: usize, rows: &[u64; TABLE]) -> [Set; AFFECTED]
     requires { n ≤ 128 }
     ensures { Affecting n rows.now result }
 {
     let writers = writers_for_reads(n, rows);
-    let mut affected = [0u64; AFFECTED];
+    let mut affected = [Set::EMPTY; AFFECTED];
     for y in 0..n {
         let affecting = all_affecting(rows, &writers, OperationNo(y));
         put_affected(&mut affected, affecting, OperationNo(y));
@@ -164,10 +156,10 @@ pub fn first_enabled(n: usize, rows: &[u64; TABLE]) -> Set
     ensures { (y : ℕ) → y < n → holds result.lo result.hi y ≡ enabled rows.now 0 0 first_words y }
 {
     let words = [0u64; WORDS];
-    let mut all = Set { lo: 0, hi: 0 };
+    let mut all = Set::EMPTY;
     for y in 0..n {
         let now = is_enabled_first(rows, &words, OperationNo(y));
-        all = insert_if(all, y, now);
+        all = all.insert_if(y, now);
     }
     all
 }
@@ -175,7 +167,7 @@ pub fn first_enabled(n: usize, rows: &[u64; TABLE]) -> Set
 // Those that are enabled behind x, the last that stands, by those that were before.
 pub fn enabled_after(
     rows: &[u64; TABLE],
-    affected: &[u64; AFFECTED],
+    affected: &[Set; AFFECTED],
     words: &[u64; WORDS],
     before: Set,
     stand: Set,
@@ -184,19 +176,16 @@ pub fn enabled_after(
     requires { x.0 < 128 }
     ensures { (y : ℕ) → y < 128 → holds result.lo result.hi y ≡ enabled_after rows.now affected.now words.now before.lo before.hi stand.lo stand.hi x.0 y }
 {
-    let changed = at(affected, x.0);
-    let kept = minus(minus(before, changed), stand);
-    if subset(changed, stand) {
+    let changed = affected[x.0];
+    let kept = before - changed - stand;
+    if changed.is_subset(stand) {
         return kept;
     }
-    let again = minus(changed, stand);
+    let again = changed - stand;
     let mut all = kept;
-    let mut y = first(again, 0);
-    while y < BOUND {
+    for y in again.members() {
         let now = is_enabled(rows, words, stand, OperationNo(y));
-        all = insert_if(all, y, now);
-        let from = y + 1;
-        y = first(again, from);
+        all = all.insert_if(y, now);
     }
     all
 }
@@ -207,12 +196,12 @@ pub fn open_after(rows: &[u64; TABLE], set: Set, stand: Set, x: OperationNo) -> 
     ensures { (y : ℕ) → holds result.lo result.hi y ≡ (due_after rows.now x.0 stand.lo stand.hi y && holds set.lo set.hi y) }
 {
     let partners = set_of(rows, x, PARTNERS);
-    if subset(partners, Set { lo: 0, hi: 0 }) {
+    if partners.is_subset(Set::EMPTY) {
         return set;
     }
-    if subset(partners, stand) {
+    if partners.is_subset(stand) {
         set
     } else {
-        common(partners, set)
+        partners & set
     }
 }

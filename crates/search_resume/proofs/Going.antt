@@ -8,9 +8,9 @@ use lib.ListN.{length, take}
 use lib.Seq.{length-take-le}
 use Rattle.model.specs.Search.{Outcome, allowed, forbidden, unfinished, search_from}
 use Rattle.search_admit.specs.Fits.{Tested}
+use Rattle.search_walk.specs.declared.Level.{Level}
 use Rattle.search_walk.specs.Walks.{Closed, Passes, Kept, Walked}
-use Rattle.search_walk.specs.declared.WalkAnswer.{WalkAnswer}
-use Rattle.search_walk.specs.declared.WalkAnswer.TheVariants.{Next, End}
+use Rattle.std.specs.Prelude.{Option, Some, None}
 use Rattle.search_resume.specs.Replies.{onward}
 use Rattle.search_resume.proofs.Onward.{onward_starts, onward_full, onward_more, onward_spent, onward_none}
 
@@ -19,7 +19,7 @@ abbrev pub Comes : ℕ → List ℕ → List ℕ → ℕ → Outcome → Type 0
 Comes n rows given allowance o = (c : List ℕ → Bool) → Tested c n rows → Closed c → c given ≡ true → o ≡ search_from n c given allowance
 
 -- The invariant: `made` steps have led to the first k entries.
-pub record Going (n : ℕ) (rows given : List ℕ) (allowance : ℕ) (levels entries places words replaced : List ℕ) (k made : ℕ) : Type 0 where
+pub record Going (n : ℕ) (rows given : List ℕ) (allowance : ℕ) (levels : List Level) (entries places words replaced : List ℕ) (k made : ℕ) : Type 0 where
   pub few : n ≤ 128
   pub room : k < n
   pub allows : made ≤ allowance
@@ -30,7 +30,7 @@ pub record Going (n : ℕ) (rows given : List ℕ) (allowance : ℕ) (levels ent
   pub rest : (c : List ℕ → Bool) → Tested c n rows → Closed c → c given ≡ true
       → Passes c n (take k entries) × (search_from n c given allowance ≡ onward made given (search_from n c (take k entries) (allowance - made)))
 
-pub going_starts : {n : ℕ} {rows : List ℕ} {allowance : ℕ} {levels entries places words replaced : List ℕ} {k : ℕ} → n ≤ 128 → k < n → length entries ≡ 128
+pub going_starts : {n : ℕ} {rows : List ℕ} {allowance : ℕ} {levels : List Level} {entries places words replaced : List ℕ} {k : ℕ} → n ≤ 128 → k < n → length entries ≡ 128
     → length places ≡ 128 → length words ≡ 128 → Kept n rows entries places levels words replaced k
     → Going n rows (take k entries) allowance levels entries places words replaced k 0
 going_starts {n} {rows} {allowance} {levels} {entries} {k = k} f r w l v h = record {
@@ -48,21 +48,21 @@ going_starts {n} {rows} {allowance} {levels} {entries} {k = k} f r w l v h = rec
   );
 }
 
-module _ {n : ℕ} {rows given : List ℕ} {allowance : ℕ} {levels entries places words replaced : List ℕ} {k made : ℕ} (inv : Going n rows given allowance levels entries places words replaced k made)
-    {r : WalkAnswer} {entries' places' levels' words' replaced' : List ℕ} (walked : Walked n rows (take k entries) r entries' places' levels' words' replaced') where
+module _ {n : ℕ} {rows given : List ℕ} {allowance : ℕ} {levels : List Level} {entries places words replaced : List ℕ} {k made : ℕ} (inv : Going n rows given allowance levels entries places words replaced k made)
+    {r : Option ℕ} {entries' places' : List ℕ} {levels' : List Level} {words' replaced' : List ℕ} (walked : Walked n rows (take k entries) r entries' places' levels' words' replaced') where
   short : length (take k entries) < n
   short = omega (arith, inv.room, length-take-le k entries (omega (arith, inv.room, inv.few, inv.whole)))
 
-  known : {a : WalkAnswer} → r ≡ a → Walked n rows (take k entries) a entries' places' levels' words' replaced'
-  known e = subst (λ (a : WalkAnswer). Walked n rows (take k entries) a entries' places' levels' words' replaced') e walked
+  known : {a : Option ℕ} → r ≡ a → Walked n rows (take k entries) a entries' places' levels' words' replaced'
+  known e = subst (λ (a : Option ℕ). Walked n rows (take k entries) a entries' places' levels' words' replaced') e walked
 
   -- nothing is left
-  pub going_ends : r ≡ End → Comes n rows given allowance (record { verdict = forbidden; steps = made; position = given })
+  pub going_ends : r ≡ None → Comes n rows given allowance (record { verdict = forbidden; steps = made; position = given })
   going_ends e c tested closed passes =
       let (on, rest) = inv.rest c tested closed passes in
       sym (rest ∙ onward_none n c closed given (take k entries) on short made (allowance - made) ((known e).means c tested closed on.0))
 
-  module _ (size : ℕ) (e : r ≡ Next size) where
+  module _ (size : ℕ) (e : r ≡ Some size) where
     size_taken : length (take size entries') ≡ size
     size_taken = let (f, w, l, v, h) = (known e).ready in length-take-le size entries' (omega (arith, f, w, inv.few))
 

@@ -3,4 +3,3 @@ pub mod Greater
 pub mod Onward
 pub mod ReplayLaws
 pub mod Going
-pub mod SearchFromLaws

@@ -1,5 +1,5 @@
 -- A position made again entry by entry: each entry must be open and not refused.
-use Prim.Native.Nat.{ℕ, suc, ◌+◌, ◌*◌, ◌≤◌, ◌<◌}
+use Prim.Native.Nat.{ℕ, suc, ◌+◌, ◌≤◌, ◌<◌}
 use native.Mathlib.Omega.{arith}
 use native.Mathlib.Numerals.{add-one}
 use mathlib.Core.Path.{◌≡◌, refl, sym, ap, ap₂, ◌∙◌, subst}
@@ -7,20 +7,22 @@ use mathlib.Core.Bool.{Bool, true, false, not, cond, ◌&&◌, and-false}
 use mathlib.Core.List.{List, [], ◌∷◌, ◌++◌, append-nil}
 use lib.ListN.{length, get_or, set, take, drop, replicate, length-set, take-append-drop, drop_of_length-le}
 use lib.Seq.{paste, set-get_or, take-suc, take-take, take_all}
-use borrow.Author.Tests.{not-true, not-false}
+use borrow.Author.Tests.{not-true}
 use Rattle.base.specs.Lists.{member, distinct}
 use Rattle.base.proofs.Bools.{clash, is_false}
 use Rattle.base.proofs.Lists.{distinct_first, distinct_entry}
 use Rattle.relation_places.proofs.PlaceLaws.{placing_none, placed_none}
 use Rattle.search_sets.specs.Set.{holds}
-use Rattle.search_sets.proofs.Members.{holds_none}
-use Rattle.search_sets.proofs.Tables.{put_at, put_here, put_word, put_other, put_length}
+use Rattle.search_sets.proofs.Loops.{holds_none}
+use Rattle.search_sets.specs.Tables.{none}
+use Rattle.search_sets.specs.declared.Set.{Set}
+use Rattle.search_walk.specs.declared.Level.{Level}
 use Rattle.search_admit.proofs.WordLaws.{words_length}
 use Rattle.search_admit.specs.Rows.{words_with, replaced_with, words_from, words_after, first_words}
 use Rattle.search_admit.specs.Fits.{due_of, refused, enabled, Standing, Tested}
 use Rattle.search_admit.proofs.FitLaws.{due_first}
 use Rattle.search_enabled.specs.Affects.{Affecting}
-use Rattle.search_walk.specs.Walks.{stands, enables, opens, low, high, Levels, Level, Entered, Closed, Kept}
+use Rattle.search_walk.specs.Walks.{level_at, stands, enables, opens, low, high, Levels, NextLevel, Entered, Closed, Kept}
 use Rattle.search_walk.proofs.Gaps.{closed_front}
 use Rattle.search_walk.proofs.Levels.{placed_more, remembered_more, levels_more}
 use Rattle.search_walk.proofs.Search.{open_tells}
@@ -35,49 +37,27 @@ pub either_long : (b : Bool) (l m : List ℕ) → length l ≡ 128 → length m 
 either_long true l m h k = h
 either_long false l m h k = k
 
--- the sets before any operation, in levels at whose front is the empty set
-module _ {n : ℕ} (rows levels : List ℕ) (few : n ≤ 128) (low_none : low levels 0 ≡ 0) (high_none : high levels 0 ≡ 0) (long : length levels ≡ 774) (lo hi : ℕ)
-    (able : (a : ℕ) → a < n → holds lo hi a ≡ enabled rows 0 0 first_words a) where
-  abbrev made : List ℕ
-  made = put_at (put_at levels 1 lo hi) 2 lo hi
+-- the sets before any operation
+module _ {n : ℕ} (rows : List ℕ) (levels : List Level) (s : Set) (able : (a : ℕ) → a < n → holds s.lo s.hi a ≡ enabled rows 0 0 first_words a) where
+  abbrev first : Level
+  first = record { standing = none; enabled = s; candidates = s }
 
-  made_low : get_or made 0 0 ≡ 0
-  made_low =
-      put_word (put_at levels 1 lo hi) 2 lo hi 0 (λ e. omega arith) (λ e. omega arith) ∙ put_word levels 1 lo hi 0 (λ e. omega arith) (λ e. omega arith) ∙ low_none
-
-  made_high : get_or made 1 0 ≡ 0
-  made_high =
-      put_word (put_at levels 1 lo hi) 2 lo hi 1 (λ e. omega arith) (λ e. omega arith) ∙ put_word levels 1 lo hi 1 (λ e. omega arith) (λ e. omega arith) ∙ high_none
-
-  stood_none : (a : ℕ) → stands made 0 a ≡ false
-  stood_none a = ap₂ (λ (u v : ℕ). holds u v a) made_low made_high ∙ holds_none a
-
-  one_long : length (put_at levels 1 lo hi) ≡ 774
-  one_long = put_length levels 1 lo hi ∙ long
-
-  enables_first : (a : ℕ) → enables made 0 a ≡ holds lo hi a
-  enables_first a =
-      put_other (put_at levels 1 lo hi) 2 lo hi 1 (λ e. omega arith) a ∙ put_here levels 1 lo hi (omega (arith, long)) a
-
-  opens_first : (a : ℕ) → opens made 0 a ≡ holds lo hi a
-  opens_first a = put_here (put_at levels 1 lo hi) 2 lo hi (omega (arith, one_long)) a
-
-  pub levels_none : {levels' : List ℕ} → levels' ≡ made → (position : List ℕ) → Levels n rows position levels' 0
+  pub levels_none : level_at levels 0 ≡ first → (position : List ℕ) → Levels n rows position levels 0
   unfolding member words_from
-  levels_none e position = rw e record {
-    stood = λ j a h l. subst (λ (i : ℕ). stands made i a ≡ member (take i position) a) (let z : 0 ≡ j = omega arith in z) (stood_none a);
+  levels_none e position = record {
+    stood = λ j a h l. subst (λ (i : ℕ). stands levels i a ≡ member (take i position) a) (let z : 0 ≡ j = omega arith in z) (rw e (holds_none a));
     able = λ j a h l.
-        subst (λ (i : ℕ). enables made i a ≡ (not (stands made i a) && enabled rows (low made i) (high made i) (words_after rows (take i position)) a)) (let z : 0 ≡ j = omega arith in z)
-        (enables_first a ∙ able a l
-        ∙ ap₂ (λ (u v : ℕ). enabled rows u v first_words a) (sym made_low) (sym made_high)
-        ∙ ap (λ (b : Bool). not b && enabled rows (low made 0) (high made 0) first_words a) (sym (stood_none a)));
+        subst (λ (i : ℕ). enables levels i a ≡ (not (stands levels i a) && enabled rows (low levels i) (high levels i) (words_after rows (take i position)) a)) (let z : 0 ≡ j = omega arith in z)
+        (subst (λ (f : Level). holds f.enabled.lo f.enabled.hi a ≡ (not (holds f.standing.lo f.standing.hi a) && enabled rows f.standing.lo f.standing.hi first_words a)) (sym e)
+        (able a l ∙ ap (λ (b : Bool). not b && enabled rows 0 0 first_words a) (sym (holds_none a))));
     due = λ j a h l.
-        subst (λ (i : ℕ). opens made i a ≡ (due_of rows (take i position) (low made i) (high made i) a && enables made i a)) (let z : 0 ≡ j = omega arith in z)
-        (opens_first a ∙ sym (enables_first a) ∙ ap (λ (b : Bool). b && enables made 0 a) (sym (due_first rows (low made 0) (high made 0) a)));
+        subst (λ (i : ℕ). opens levels i a ≡ (due_of rows (take i position) (low levels i) (high levels i) a && enables levels i a)) (let z : 0 ≡ j = omega arith in z)
+        (subst (λ (f : Level). holds f.candidates.lo f.candidates.hi a ≡ (due_of rows [] f.standing.lo f.standing.hi a && holds f.enabled.lo f.enabled.hi a)) (sym e)
+        (ap (λ (b : Bool). b && holds s.lo s.hi a) (sym (due_first rows 0 0 a))));
   }
 
 -- nothing stands yet
-pub kept_none : {n : ℕ} {rows entries levels words replaced : List ℕ} → n ≤ 128 → words ≡ first_words → Levels n rows entries levels 0
+pub kept_none : {n : ℕ} {rows entries : List ℕ} {levels : List Level} {words replaced : List ℕ} → n ≤ 128 → words ≡ first_words → Levels n rows entries levels 0
     → Kept n rows entries (replicate 128 255) levels words replaced 0
 unfolding words_from
 kept_none {n} {rows} {entries} few w h = record {
@@ -87,7 +67,7 @@ kept_none {n} {rows} {entries} few w h = record {
 }
 
 -- The invariant: the first j entries pass, and all is kept of them.
-pub record Replaying (n : ℕ) (rows : List ℕ) (size : ℕ) (given places levels words replaced : List ℕ) (j : ℕ) : Type 0 where
+pub record Replaying (n : ℕ) (rows : List ℕ) (size : ℕ) (given places : List ℕ) (levels : List Level) (words replaced : List ℕ) (j : ℕ) : Type 0 where
   pub few : n ≤ 128
   pub room : size ≤ n
   pub within : j ≤ size
@@ -98,19 +78,8 @@ pub record Replaying (n : ℕ) (rows : List ℕ) (size : ℕ) (given places leve
   pub kept : Kept n rows given places levels words replaced j
   pub passes : (c : List ℕ → Bool) → Tested c n rows → Closed c → c [] ≡ true → c (take j given) ≡ true
 
-module _ {n : ℕ} {rows : List ℕ} {size : ℕ} {given places levels words replaced : List ℕ} {j : ℕ}
+module _ {n : ℕ} {rows : List ℕ} {size : ℕ} {given places : List ℕ} {levels : List Level} {words replaced : List ℕ} {j : ℕ}
     (inv : Replaying n rows size given places levels words replaced j) where
-  -- all entries are made
-  pub replay_done : size ≤ j → Replayed n rows size given true places levels words replaced
-  replay_done l =
-      let e : j ≡ size = omega (arith, inv.within) in
-      record {
-        long = inv.long;
-        wide = inv.wide;
-        kept = λ t. subst (λ (k : ℕ). Kept n rows given places levels words replaced k) e inv.kept;
-        means = λ c tested closed empty. sym (subst (λ (k : ℕ). c (take k given) ≡ true) e (inv.passes c tested closed empty));
-      }
-
   module _ (x : ℕ) (below : j < size) (x_is : x ≡ get_or given j 0) where
     inside : j < length given
     inside = omega (arith, inv.few, inv.room, inv.whole)
@@ -151,22 +120,19 @@ module _ {n : ℕ} {rows : List ℕ} {size : ℕ} {given places levels words rep
           clash (closed_front c closed (drop (suc j) (take size given)) (take j given ++ (x ∷ [])) (ap c front ∙ t)) (tells c tested closed empty ∙ f)));
     }
 
-    module _ (open_lo open_hi : ℕ) (open_at : (open_lo ≡ get_or levels (2 * (3 * j + 2)) 0) × (open_hi ≡ get_or levels (2 * (3 * j + 2) + 1) 0)) {r : Bool} (has : r ≡ holds open_lo open_hi x) where
-      opened : r ≡ opens levels j x
-      opened = has ∙ ap₂ (λ (u v : ℕ). holds u v x) open_at.0 open_at.1
+    module _ {r : Bool} (opened : r ≡ opens levels j x) where
+      pub replay_closed : r ≡ false → Replayed n rows size given false places levels words replaced
+      replay_closed h = fails (ap (λ (b : Bool). b && not (refused rows places (low levels j) (high levels j) x)) (sym opened ∙ h))
 
-      pub replay_closed : not r ≡ true → Replayed n rows size given false places levels words replaced
-      replay_closed h = fails (ap (λ (b : Bool). b && not (refused rows places (low levels j) (high levels j) x)) (sym opened ∙ not-true r h))
-
-      module _ {affected : List ℕ} {s : Bool} {places' levels' words' replaced' : List ℕ}
+      module _ {affected : List Set} {s : Bool} {places' : List ℕ} {levels' : List Level} {words' replaced' : List ℕ}
           (entered : Entered rows affected x j s places levels words replaced places' levels' words' replaced') where
-        pub replay_refused : not s ≡ true → Replayed n rows size given false places' levels' words' replaced'
+        pub replay_refused : s ≡ false → Replayed n rows size given false places' levels' words' replaced'
         replay_refused h =
-            let (a, b, d, e) = entered.left (not-true s h) in
-            rw (a, b, d, e) (fails (ap (λ (q : Bool). opens levels j x && q) (sym entered.told ∙ not-true s h) ∙ and-false (opens levels j x)))
+            let (a, b, d, e) = entered.left h in
+            rw (a, b, d, e) (fails (ap (λ (q : Bool). opens levels j x && q) (sym entered.told ∙ h) ∙ and-false (opens levels j x)))
 
-        pub replay_more : not r ≡ false → not s ≡ false → Affecting n rows affected → Replaying n rows size given places' levels' words' replaced' (j + 1)
-        replay_more h1 h2 affecting_are = let (e, f, g, made, full) = entered.made (not-false s h2) in rw (e, f, g) record {
+        pub replay_more : r ≡ true → s ≡ true → Affecting n rows affected → Replaying n rows size given places' levels' words' replaced' (j + 1)
+        replay_more h1 h2 affecting_are = let (e, f, g, made, full) = entered.made h2 in rw (e, f, g) record {
           few = inv.few;
           room = inv.room;
           within = omega arith;
@@ -179,10 +145,10 @@ module _ {n : ℕ} {rows : List ℕ} {size : ℕ} {given places levels words rep
               (record {
                 placed = placed_more given j x inside n places inv.long inv.kept.placed entry_low new;
                 levelled = levels_more inv.kept.levelled affected affecting_are inv.few x entry_low inside
-                    (subst (λ (ws : List ℕ). Level rows affected ws x j levels levels') (f ∙ ap (λ (ws : List ℕ). words_with rows ws x) inv.kept.remembered.now_are) made);
+                    (subst (λ (ws : List ℕ). NextLevel rows affected ws x j levels levels') (f ∙ ap (λ (ws : List ℕ). words_with rows ws x) inv.kept.remembered.now_are) made);
                 remembered = remembered_more inv.kept.remembered x inv.whole full (omega (arith, inv.few, inv.room));
               });
           passes = λ c tested closed empty.
               ap c (ap (λ (k : ℕ). take k given) (add-one j) ∙ one_longer) ∙ tells c tested closed empty
-              ∙ ap₂ (λ (a b : Bool). a && b) (sym opened ∙ not-false r h1) (sym entered.told ∙ not-false s h2);
+              ∙ ap₂ (λ (a b : Bool). a && b) (sym opened ∙ h1) (sym entered.told ∙ h2);
         }

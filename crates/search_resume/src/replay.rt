@@ -2,24 +2,27 @@
 ghost use Rattle.std.specs.Prelude.{◌≡◌, true, List, [], ℕ, ◌≤◌, length, take};
 ghost use Rattle.base.specs.Lists.{distinct};
 ghost use Rattle.search_enabled.specs.Affects.{Affecting};
-ghost use Rattle.search_walk.specs.Walks.{levels_length, low, high, Levels, Kept};
+ghost use Rattle.search_walk.specs.Walks.{Levels, Kept};
 ghost use Rattle.search_resume.specs.Replays.{Replayed};
 
 use record_decoded::position::Position;
 use record_decoded::types::{OperationNo, wide};
 use search_admit::{REPLACED, TABLE, WORDS};
 use search_enabled::{AFFECTED, first_enabled};
-use search_sets::{at, has, put};
-use search_walk::{ENABLED, LEVELS, OPEN, SETS, enter};
+use search_sets::Set;
+use search_walk::{LEVELS, Level, enter};
 
-// The sets before any operation, in levels at whose front is the empty set.
-pub fn first_level(n: usize, rows: &[u64; TABLE], levels: &mut [u64])
-    requires { (n ≤ 128) × (low levels.old 0 ≡ 0) × (high levels.old 0 ≡ 0) × (length levels.old ≡ levels_length) }
+// The sets before any operation, as level 0.
+pub fn first_level(n: usize, rows: &[u64; TABLE], levels: &mut [Level; LEVELS])
+    requires { n ≤ 128 }
     ensures { (position : List ℕ) → Levels n rows.now position levels.new 0 }
 {
     let enabled = first_enabled(n, rows);
-    put(levels, ENABLED, enabled);
-    put(levels, OPEN, enabled);
+    levels[0] = Level {
+        standing: Set::EMPTY,
+        enabled,
+        candidates: enabled,
+    };
 }
 
 // Whether the first `size` entries, which differ, pass the tests; if so, their places, sets and words are made.
@@ -28,36 +31,25 @@ pub fn replay(
     entries: &[u8; Position::LIMIT],
     size: usize,
     places: &mut [u8; Position::LIMIT],
-    levels: &mut [u64; LEVELS],
+    levels: &mut [Level; LEVELS],
     words: &mut [u64; WORDS],
     replaced: &mut [u64; REPLACED],
     rows: &[u64; TABLE],
-    affected: &[u64; AFFECTED],
+    affected: &[Set; AFFECTED],
 ) -> bool
     requires kept { (n ≤ 128) × (size ≤ n) × (distinct n [] (take size entries.now) ≡ true) × Kept n rows.now entries.now places.old levels.old words.old replaced.old 0 × Affecting n rows.now affected.now }
     requires lengths { (length entries.now ≡ 128) × (length places.old ≡ 128) × (length words.old ≡ 128) }
     ensures { Replayed n rows.now size entries.now result places.new levels.new words.new replaced.new }
 {
-    let mut j = 0;
-    while j < size {
+    for j in 0..size {
         let x = wide(entries[j]);
-        let candidates = at(levels, SETS * j + OPEN);
-        if !has(candidates, x) {
+        if !levels[j].candidates.has(x) {
             return false;
         }
-        if !enter(
-            j,
-            places,
-            levels,
-            words,
-            replaced,
-            rows,
-            affected,
-            OperationNo(x),
-        ) {
+        let o = OperationNo(x);
+        if !enter(j, places, levels, words, replaced, rows, affected, o) {
             return false;
         }
-        j += 1;
     }
     true
 }

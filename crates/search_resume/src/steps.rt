@@ -13,34 +13,22 @@ use record_decoded::types::copy_bytes;
 use relation_places::ABSENT;
 use search_admit::{REPLACED, TABLE, WORDS};
 use search_enabled::AFFECTED;
-use search_walk::{LEVELS, WalkAnswer, walk};
+use search_sets::Set;
+use search_walk::{LEVELS, Level, walk};
 
-#[derive(Clone, Copy)]
+#[derive(Clone, Copy, Debug, PartialEq, Eq)]
 pub enum Verdict {
     Unfinished,
     Allowed,
     Forbidden,
 }
 
-// What a search comes to: its verdict, its steps and the position it leaves, if the position given is consistent.
+// What a search from a consistent position comes to: its verdict, its steps and the position it leaves.
 #[derive(Clone, Copy)]
 pub struct Outcome {
-    pub consistent: bool,
     pub verdict: Verdict,
     pub steps: u32,
     pub position: Position,
-}
-
-// An outcome without a step: the position given, and nothing more.
-fn without_step(consistent: bool, verdict: Verdict, given: Position) -> Outcome
-    ensures { (result.consistent ≡ consistent) × (result.verdict ≡ verdict) × (result.steps ≡ 0) × (result.position ≡ given) }
-{
-    Outcome {
-        consistent,
-        verdict,
-        steps: 0,
-        position: given,
-    }
 }
 
 // The entries of a position, kept in `reached` if these are the last.
@@ -58,12 +46,12 @@ fn make_steps(
     n: usize,
     given: Position,
     places: &mut [u8; Position::LIMIT],
-    levels: &mut [u64; LEVELS],
+    levels: &mut [Level; LEVELS],
     words: &mut [u64; WORDS],
     replaced: &mut [u64; REPLACED],
     allowance: u32,
     rows: &[u64; TABLE],
-    affected: &[u64; AFFECTED],
+    affected: &[Set; AFFECTED],
 ) -> Outcome
     requires kept { (n ≤ 128) × (given.length < n) × Kept n rows.now given.entries places.old levels.old words.old replaced.old given.length × Affecting n rows.now affected.now }
     requires lengths { (ListN.length given.entries ≡ 128) × (ListN.length places.old ≡ 128) × (ListN.length words.old ≡ 128) }
@@ -77,7 +65,7 @@ fn make_steps(
         // The walk behind the last step only sees whether anything is left.
         let last = steps == allowance;
         keep_if(last, &entries, &mut reached);
-        let next = walk(
+        let Some(size) = walk(
             n,
             &mut entries,
             length,
@@ -87,35 +75,27 @@ fn make_steps(
             replaced,
             rows,
             affected,
-        );
-        match next {
-            WalkAnswer::End => {
-                return Outcome {
-                    consistent: true,
-                    verdict: Verdict::Forbidden,
-                    steps,
-                    position: given,
-                };
-            }
-            WalkAnswer::Next(size) => {
-                if last {
-                    return Outcome {
-                        consistent: true,
-                        verdict: Verdict::Unfinished,
-                        steps,
-                        position: Position {
-                            length,
-                            entries: reached,
-                        },
-                    };
-                }
-                steps += 1;
-                length = size;
-            }
+        ) else {
+            return Outcome {
+                verdict: Verdict::Forbidden,
+                steps,
+                position: given,
+            };
+        };
+        if last {
+            return Outcome {
+                verdict: Verdict::Unfinished,
+                steps,
+                position: Position {
+                    length,
+                    entries: reached,
+                },
+            };
         }
+        steps += 1;
+        length = size;
         if length == n {
             return Outcome {
-                consistent: true,
                 verdict: Verdict::Allowed,
                 steps,
                 position: Position { length, entries },
@@ -124,14 +104,14 @@ fn make_steps(
     }
 }
 
-// From a position of different operations: whether it is consistent, and if so what the search comes to.
+// From a position of different operations: what the search comes to, if the position is consistent.
 pub fn search_from(
     n: usize,
     given: Position,
     allowance: u32,
     rows: &[u64; TABLE],
-    affected: &[u64; AFFECTED],
-) -> Outcome
+    affected: &[Set; AFFECTED],
+) -> Option<Outcome>
     requires { (n ≤ 128) × (given.length ≤ n) × (distinct n [] (position_of given) ≡ true) × (ListN.length given.entries ≡ 128) × Affecting n rows.now affected.now }
     ensures { SearchedFrom n rows.now (position_of given) allowance result }
 {
@@ -139,10 +119,10 @@ pub fn search_from(
     let length = given.length;
     let mut places = [ABSENT; Position::LIMIT];
     let mut words = [0u64; WORDS];
-    let mut levels = [0u64; LEVELS];
+    let mut levels = [Level::EMPTY; LEVELS];
     let mut replaced = [0u64; REPLACED];
     first_level(n, rows, &mut levels);
-    let consistent = replay(
+    if !replay(
         n,
         &entries,
         length,
@@ -152,14 +132,17 @@ pub fn search_from(
         &mut replaced,
         rows,
         affected,
-    );
-    if !consistent {
-        return without_step(false, Verdict::Unfinished, given);
+    ) {
+        return None;
     }
     if length == n {
-        return without_step(true, Verdict::Allowed, given);
+        return Some(Outcome {
+            verdict: Verdict::Allowed,
+            steps: 0,
+            position: given,
+        });
     }
-    make_steps(
+    Some(make_steps(
         n,
         given,
         &mut places,
@@ -169,5 +152,5 @@ pub fn search_from(
         allowance,
         rows,
         affected,
-    )
+    ))
 }

@@ -14,7 +14,8 @@ use Rattle.base.specs.Below.{all_below}
 use Rattle.base.specs.Bits.{bit}
 use Rattle.base.proofs.Bools.{agree}
 use Rattle.base.proofs.Tests.{all_at, all_below_lem}
-use Rattle.search_sets.specs.Set.{holds, LowestMember}
+use Rattle.search_sets.specs.Set.{holds, LowestMember, FirstFrom}
+use Rattle.std.specs.Prelude.{Some}
 use Rattle.search_sets.proofs.Bit.{has_or, has_and, has_pow}
 
 pub lt_or_le : (a b : ℕ) → (a < b) ⊎ (b ≤ a)
@@ -155,6 +156,13 @@ has_minus a b k =
     (xor_mod (a / 2 ^ k) (bit_and (a / 2 ^ k) (b / 2 ^ k)) 1 ∙ ap (bit_xor (a / 2 ^ k % 2)) (and_mod (a / 2 ^ k) (b / 2 ^ k) 1))
     ∙ xor_bit (a / 2 ^ k % 2) (b / 2 ^ k % 2) (omega arith) (omega arith))
 
+-- a word that is not empty has a lowest set bit
+tz_found : (m : ℕ) → m < 2 ^ 64 → (m ≡ 0 → ⊥) → count_trailing_zeros 64 m < 64
+tz_found m small h =
+    ⊎_elim (λ l. l)
+    (λ l. absurd (h (same_bits 64 m 0 small (omega arith) (λ i j. (tz_lowest 64 m).none i (omega arith) (omega arith) ∙ sym (zero_has i)))))
+    (lt_or_le (count_trailing_zeros 64 m) 64)
+
 -- the lowest member of a word from f on
 module _ (m f : ℕ) (small : m < 2 ^ 64) where
   abbrev rest : ℕ
@@ -166,10 +174,7 @@ module _ (m f : ℕ) (small : m < 2 ^ 64) where
       ap (bit m) (sym d) ∙ sym (has_shr m f (i - f)) ∙ ap (λ (x : ℕ). bit x (i - f)) e ∙ zero_has (i - f)
 
   rest_found : (rest ≡ 0 → ⊥) → count_trailing_zeros 64 rest < 64
-  rest_found h =
-      ⊎_elim (λ l. l)
-      (λ l. absurd (h (same_bits 64 rest 0 (lt_of_le_of_lt (shr_le m f) small) (omega arith)
-      (λ i j. (tz_lowest 64 rest).none i (omega arith) (omega arith) ∙ sym (zero_has i))))) (lt_or_le (count_trailing_zeros 64 rest) 64)
+  rest_found = tz_found rest (lt_of_le_of_lt (shr_le m f) small)
 
   word_here : (rest ≡ 0 → ⊥) → bit m (f + count_trailing_zeros 64 rest) ≡ true
   word_here h = sym (has_shr m f (count_trailing_zeros 64 rest)) ∙ (tz_lowest 64 rest).here (rest_found h)
@@ -185,40 +190,46 @@ module _ (m f : ℕ) (small : m < 2 ^ 64) where
       ap (bit m) (sym d) ∙ sym (has_shr m f (i - f)) ∙ (tz_lowest 64 rest).none (i - f) (omega arith) (omega arith)
 
 module _ (lo hi f : ℕ) where
-  pub first_low : lo < 2 ^ 64 → (lo / 2 ^ f ≡ 0 → ⊥) → LowestMember (holds lo hi) f 128 (f + count_trailing_zeros 64 (lo / 2 ^ f))
+  pub first_low : lo < 2 ^ 64 → (lo / 2 ^ f ≡ 0 → ⊥) → FirstFrom (holds lo hi) f (Some (f + count_trailing_zeros 64 (lo / 2 ^ f)))
   first_low s h =
-      let l = word_within lo f s h in
-      record {
-        within = omega arith;
-        onward = omega arith;
-        none = λ i a b. holds_low lo hi i (omega arith) ∙ word_none lo f s i a b;
-        here = λ b. holds_low lo hi _ l ∙ word_here lo f s h;
-      }
+      let l = word_within lo f s h in (
+        (let z : f + count_trailing_zeros 64 (lo / 2 ^ f) < 128 = omega (arith, l) in z),
+        record {
+          within = omega arith;
+          onward = omega arith;
+          none = λ i a b. holds_low lo hi i (omega arith) ∙ word_none lo f s i a b;
+          here = λ b. holds_low lo hi _ l ∙ word_here lo f s h;
+        },
+      )
 
-  pub first_next : lo < 2 ^ 64 → f < 64 → lo / 2 ^ f ≡ 0 → LowestMember (holds lo hi) f 128 (64 + count_trailing_zeros 64 hi)
-  first_next s k e =
+  pub first_next : lo < 2 ^ 64 → hi < 2 ^ 64 → f < 64 → lo / 2 ^ f ≡ 0 → (hi ≡ 0 → ⊥) → FirstFrom (holds lo hi) f (Some (64 + count_trailing_zeros 64 hi))
+  first_next s small k e h =
       let w = tz_lowest 64 hi in
-      let d : 64 + count_trailing_zeros 64 hi - 64 ≡ count_trailing_zeros 64 hi = omega arith in
-      record {
-        within = omega (arith, w.within);
-        onward = omega arith;
-        none = λ i a b.
-            ⊎_elim (λ l. holds_low lo hi i l ∙ rest_none lo f s e i a)
-            (λ l. holds_high lo hi i l ∙ w.none (i - 64) (omega arith) (omega arith)) (lt_or_le i 64);
-        here = λ b. holds_high lo hi _ (omega arith) ∙ ap (bit hi) d ∙ w.here (omega arith);
-      }
+      let d : 64 + count_trailing_zeros 64 hi - 64 ≡ count_trailing_zeros 64 hi = omega arith in (
+        (let z : 64 + count_trailing_zeros 64 hi < 128 = omega (arith, tz_found hi small h) in z),
+        record {
+          within = omega (arith, w.within);
+          onward = omega arith;
+          none = λ i a b.
+              ⊎_elim (λ l. holds_low lo hi i l ∙ rest_none lo f s e i a)
+              (λ l. holds_high lo hi i l ∙ w.none (i - 64) (omega arith) (omega arith)) (lt_or_le i 64);
+          here = λ b. holds_high lo hi _ (omega arith) ∙ ap (bit hi) d ∙ w.here (omega arith);
+        },
+      )
 
-  pub first_high : hi < 2 ^ 64 → 64 ≤ f → (hi / 2 ^ (f - 64) ≡ 0 → ⊥) → LowestMember (holds lo hi) f 128 (f + count_trailing_zeros 64 (hi / 2 ^ (f - 64)))
+  pub first_high : hi < 2 ^ 64 → 64 ≤ f → (hi / 2 ^ (f - 64) ≡ 0 → ⊥) → FirstFrom (holds lo hi) f (Some (f + count_trailing_zeros 64 (hi / 2 ^ (f - 64))))
   first_high s k h =
       let t = count_trailing_zeros 64 (hi / 2 ^ (f - 64)) in
       let l = word_within hi (f - 64) s h in
-      let d : f + t - 64 ≡ f - 64 + t = omega arith in
-      record {
-        within = omega arith;
-        onward = omega arith;
-        none = λ i a b. holds_high lo hi i (omega arith) ∙ word_none hi (f - 64) s (i - 64) (omega arith) (omega arith);
-        here = λ b. holds_high lo hi _ (omega arith) ∙ ap (bit hi) d ∙ word_here hi (f - 64) s h;
-      }
+      let d : f + t - 64 ≡ f - 64 + t = omega arith in (
+        (let z : f + t < 128 = omega (arith, l) in z),
+        record {
+          within = omega arith;
+          onward = omega arith;
+          none = λ i a b. holds_high lo hi i (omega arith) ∙ word_none hi (f - 64) s (i - 64) (omega arith) (omega arith);
+          here = λ b. holds_high lo hi _ (omega arith) ∙ ap (bit hi) d ∙ word_here hi (f - 64) s h;
+        },
+      )
 
   pub first_none : hi < 2 ^ 64 → 64 ≤ f → f ≤ 128 → hi / 2 ^ (f - 64) ≡ 0 → LowestMember (holds lo hi) f 128 128
   first_none s k l e =
@@ -226,6 +237,16 @@ module _ (lo hi f : ℕ) where
         within = omega arith;
         onward = l;
         none = λ i a b. holds_high lo hi i (omega arith) ∙ rest_none hi (f - 64) s e (i - 64) (omega arith);
+        here = λ b. absurd (omega arith);
+      }
+
+  pub first_empty : lo < 2 ^ 64 → f < 64 → lo / 2 ^ f ≡ 0 → hi ≡ 0 → LowestMember (holds lo hi) f 128 128
+  first_empty s l e z =
+      record {
+        within = omega arith;
+        onward = omega arith;
+        none = λ i a b.
+            ⊎_elim (λ m. holds_low lo hi i m ∙ rest_none lo f s e i a) (λ m. holds_high lo hi i m ∙ ap (λ (w : ℕ). bit w (i - 64)) z ∙ zero_has (i - 64)) (lt_or_le i 64);
         here = λ b. absurd (omega arith);
       }
 

@@ -1,139 +1,166 @@
 // Sets of numbers below 128, in two words, by value.
 #![tactic(auto)]
 
-ghost use Rattle.std.specs.Prelude.{◌≡◌, not, ◌&&◌, ◌||◌, ℕ, ◌+◌, ◌*◌, ◌<◌, ◌≤◌, length, get_or, set, eqb};
+ghost use Rattle.std.specs.Prelude.{◌≡◌, not, ◌&&◌, ◌||◌, ℕ, ◌<◌, ◌≤◌, eqb};
+ghost use Rattle.std.specs.Iterator.{at_most};
 ghost use Rattle.base.specs.Below.{all_below};
-ghost use Rattle.search_sets.specs.Set.{holds, LowestMember};
+ghost use Rattle.search_sets.specs.Set.{holds, FirstFrom, Takes, passing};
+
+use std::ops::{BitAnd, BitOr, Sub};
 
 // The members of a set are below this number: there is room for the operations of a record.
 pub const BOUND: usize = 128;
 
-#[derive(Clone, Copy)]
+#[derive(Clone, Copy, Debug, PartialEq, Eq)]
 pub struct Set {
     pub lo: u64,
     pub hi: u64,
 }
 
-pub fn has(s: Set, i: usize) -> bool
-    requires { i < 128 }
-    ensures { result ≡ holds s.lo s.hi i }
-{
-    if i < 64 {
-        (s.lo >> i) % 2 == 1
-    } else {
-        (s.hi >> (i - 64)) % 2 == 1
-    }
-}
+impl Set {
+    pub const EMPTY: Set = Set { lo: 0, hi: 0 };
 
-pub fn insert(s: Set, i: usize) -> Set
-    requires { i < 128 }
-    ensures { (k : ℕ) → holds result.lo result.hi k ≡ (holds s.lo s.hi k || eqb k i) }
-{
-    if i < 64 {
-        Set {
-            lo: s.lo | (1 << i),
-            hi: s.hi,
-        }
-    } else {
-        Set {
-            lo: s.lo,
-            hi: s.hi | (1 << (i - 64)),
+    pub fn has(self, i: usize) -> bool
+        requires { i < 128 }
+        ensures { result ≡ holds self.lo self.hi i }
+    {
+        if i < 64 {
+            (self.lo >> i) % 2 == 1
+        } else {
+            (self.hi >> (i - 64)) % 2 == 1
         }
     }
-}
 
-// A set, with a number below 128 where that is wanted.
-pub fn insert_if(s: Set, i: usize, wanted: bool) -> Set
-    ensures { (k : ℕ) → k < 128 → holds result.lo result.hi k ≡ (holds s.lo s.hi k || (wanted && eqb k i)) }
-{
-    if !wanted {
-        return s;
+    pub fn insert(self, i: usize) -> Set
+        requires { i < 128 }
+        ensures { (k : ℕ) → holds result.lo result.hi k ≡ (holds self.lo self.hi k || eqb k i) }
+    {
+        if i < 64 {
+            Set {
+                lo: self.lo | (1 << i),
+                hi: self.hi,
+            }
+        } else {
+            Set {
+                lo: self.lo,
+                hi: self.hi | (1 << (i - 64)),
+            }
+        }
     }
-    if i >= BOUND {
-        return s;
-    }
-    insert(s, i)
-}
 
-pub fn minus(a: Set, b: Set) -> Set
-    ensures { (k : ℕ) → holds result.lo result.hi k ≡ (holds a.lo a.hi k && not (holds b.lo b.hi k)) }
-{
-    Set {
-        lo: a.lo ^ (a.lo & b.lo),
-        hi: a.hi ^ (a.hi & b.hi),
+    // With a number below 128 where that is wanted.
+    pub fn insert_if(self, i: usize, wanted: bool) -> Set
+        ensures { (k : ℕ) → k < 128 → holds result.lo result.hi k ≡ (holds self.lo self.hi k || (wanted && eqb k i)) }
+    {
+        if wanted && i < BOUND {
+            self.insert(i)
+        } else {
+            self
+        }
+    }
+
+    pub fn remove(self, i: usize) -> Set
+        requires { i < 128 }
+        ensures { (k : ℕ) → holds result.lo result.hi k ≡ (holds self.lo self.hi k && not (eqb k i)) }
+    {
+        self - Set::EMPTY.insert(i)
+    }
+
+    pub fn is_subset(self, other: Set) -> bool
+        ensures { result ≡ all_below 128 (λ (k : ℕ). not (holds self.lo self.hi k) || holds other.lo other.hi k) }
+    {
+        self.lo & other.lo == self.lo && self.hi & other.hi == self.hi
+    }
+
+    // The lowest member from `from` on.
+    pub fn first_from(self, from: usize) -> Option<usize>
+        requires { from ≤ 128 }
+        ensures { FirstFrom (holds self.lo self.hi) from result }
+    {
+        if from < 64 {
+            let w = self.lo >> from;
+            if w != 0 {
+                return Some(from + w.trailing_zeros() as usize);
+            }
+            if self.hi != 0 {
+                return Some(64 + self.hi.trailing_zeros() as usize);
+            }
+            return None;
+        }
+        if from < BOUND {
+            let v = self.hi >> (from - 64);
+            if v != 0 {
+                return Some(from + v.trailing_zeros() as usize);
+            }
+        }
+        None
+    }
+
+    pub fn members(self) -> Members
+        ensures { result.left ≡ self }
+    {
+        Members { left: self }
     }
 }
 
 // The members of both.
-pub fn common(a: Set, b: Set) -> Set
-    ensures { (k : ℕ) → holds result.lo result.hi k ≡ (holds a.lo a.hi k && holds b.lo b.hi k) }
-{
-    Set {
-        lo: a.lo & b.lo,
-        hi: a.hi & b.hi,
+impl BitAnd for Set {
+    type Output = Set;
+
+    ghost bitand_gives = { λ a b r. (k : ℕ) → holds r.lo r.hi k ≡ (holds a.lo a.hi k && holds b.lo b.hi k) };
+
+    fn bitand(self, other: Set) -> Set {
+        Set {
+            lo: self.lo & other.lo,
+            hi: self.hi & other.hi,
+        }
     }
 }
 
 // The members of either.
-pub fn union(a: Set, b: Set) -> Set
-    ensures { (k : ℕ) → holds result.lo result.hi k ≡ (holds a.lo a.hi k || holds b.lo b.hi k) }
-{
-    Set {
-        lo: a.lo | b.lo,
-        hi: a.hi | b.hi,
-    }
-}
+impl BitOr for Set {
+    type Output = Set;
 
-pub fn subset(a: Set, b: Set) -> bool
-    ensures { result ≡ all_below 128 (λ (k : ℕ). not (holds a.lo a.hi k) || holds b.lo b.hi k) }
-{
-    a.lo & b.lo == a.lo && a.hi & b.hi == a.hi
-}
+    ghost bitor_gives = { λ a b r. (k : ℕ) → holds r.lo r.hi k ≡ (holds a.lo a.hi k || holds b.lo b.hi k) };
 
-// The lowest member from `from` on, or BOUND.
-pub fn first(s: Set, from: usize) -> usize
-    requires { from ≤ 128 }
-    ensures { LowestMember (holds s.lo s.hi) from 128 result }
-{
-    if from < 64 {
-        let w = s.lo >> from;
-        if w != 0 {
-            let z = u64::trailing_zeros(w);
-            return from + z as usize;
-        }
-        let y = u64::trailing_zeros(s.hi);
-        return 64 + y as usize;
-    }
-    if from < BOUND {
-        let v = s.hi >> (from - 64);
-        if v != 0 {
-            let x = u64::trailing_zeros(v);
-            return from + x as usize;
+    fn bitor(self, other: Set) -> Set {
+        Set {
+            lo: self.lo | other.lo,
+            hi: self.hi | other.hi,
         }
     }
-    BOUND
 }
 
-// The k-th set of a table, two words a set.
-pub fn at(t: &[u64], k: usize) -> Set
-    requires k_bound { k < 1024 }
-    requires k_in_bounds { 2 * k + 1 < length t.now }
-    ensures { (result.lo ≡ get_or t.now (2 * k) 0) × (result.hi ≡ get_or t.now (2 * k + 1) 0) }
-{
-    let i = 2 * k;
-    let j = i + 1;
-    let lo = t[i];
-    let hi = t[j];
-    Set { lo: lo, hi: hi }
+// The members of the first that are not members of the second.
+impl Sub for Set {
+    type Output = Set;
+
+    ghost sub_gives = { λ a b r. (k : ℕ) → holds r.lo r.hi k ≡ (holds a.lo a.hi k && not (holds b.lo b.hi k)) };
+
+    fn sub(self, other: Set) -> Set {
+        Set {
+            lo: self.lo ^ (self.lo & other.lo),
+            hi: self.hi ^ (self.hi & other.hi),
+        }
+    }
 }
 
-pub fn put(t: &mut [u64], k: usize, s: Set)
-    requires k_bound { k < 1024 }
-    requires k_in_bounds { 2 * k + 1 < length t.old }
-    ensures { t.new ≡ set (set t.old (2 * k) s.lo) (2 * k + 1) s.hi }
-{
-    let i = 2 * k;
-    let j = i + 1;
-    t[i] = s.lo;
-    t[j] = s.hi;
+// The members of a set that are left, the lowest first.
+#[derive(Clone, Drop)]
+pub struct Members {
+    pub left: Set,
+}
+
+impl Iterator for Members {
+    type Item = usize;
+
+    ghost next_gives = { λ s r t. Takes s.left.lo s.left.hi r t.left.lo t.left.hi };
+
+    ghost remaining = { λ s. at_most (passing 128 (holds s.left.lo s.left.hi)) };
+
+    fn next(&mut self) -> Option<usize> {
+        let first = self.left.first_from(0)?;
+        self.left = self.left.remove(first);
+        Some(first)
+    }
 }

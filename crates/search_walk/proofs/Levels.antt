@@ -17,13 +17,14 @@ use Rattle.relation_places.specs.Places.{place_from, placed, Placed}
 use Rattle.relation_places.proofs.PlaceLaws.{place_absent, placed_there, placed_append}
 use Rattle.search_sets.specs.Set.{holds}
 use Rattle.search_admit.specs.Rows.{written_word, words_written, words_up_to, words_with, replaced_with, words_without, words_from, words_after, first_words}
-use Rattle.search_sets.proofs.Tables.{put_at, put_low, put_high, put_here, put_word, put_other, put_length}
-use Rattle.search_admit.specs.Fits.{due_after, due_of, enabled}
+use Rattle.search_sets.specs.declared.Set.{Set}
+use Rattle.search_admit.specs.Fits.{due_of, enabled}
 use Rattle.search_admit.proofs.FitLaws.{due_more}
 use Rattle.search_admit.proofs.WordLaws.{few_written, kept_there, kept_other, back_again}
-use Rattle.search_enabled.specs.Affects.{Affecting, enabled_after}
+use Rattle.search_enabled.specs.Affects.{Affecting}
 use Rattle.search_enabled.proofs.Unaffected.{enabled_more}
-use Rattle.search_walk.specs.Walks.{stands, enables, opens, low, high, Levels, Level, Remembered}
+use Rattle.search_walk.specs.Walks.{level_at, stands, enables, opens, low, high, Levels, NextLevel, Remembered}
+use Rattle.search_walk.specs.declared.Level.{Level}
 
 -- the places of the others are as they were
 place_other : (k : ℕ) (xs : List ℕ) (x o : ℕ) → (x ≡ o → ⊥) → place_from k (xs ++ (x ∷ [])) o ≡ place_from k xs o
@@ -112,61 +113,8 @@ module _ {rows position words replaced : List ℕ} {k : ℕ} (r : Remembered row
           (subst (λ (xs : List ℕ). Was j h (words_after rows xs) (get_or position j 0)) (sym (take-set-le j position k x (omega arith)))
           (kept_other rows words replaced k x (words_written rows x) (2 * j + h) (omega (arith, below, few_written rows (get_or position j 0))) ∙ r.were j h (omega arith) below))
 
--- the three sets of a level, put one after the other
-module _ (rows affected words levels : List ℕ) (x k lo hi slo shi blo bhi elo ehi olo ohi : ℕ) (long : length levels ≡ 774) (small : k < 128)
-    (was : (lo ≡ get_or levels (2 * (3 * k)) 0) × (hi ≡ get_or levels (2 * (3 * k) + 1) 0)) (more : (a : ℕ) → holds slo shi a ≡ (holds lo hi a || eqb a x))
-    (before : (blo ≡ get_or levels (2 * (3 * k + 1)) 0) × (bhi ≡ get_or levels (2 * (3 * k + 1) + 1) 0))
-    (able : (a : ℕ) → a < 128 → holds elo ehi a ≡ enabled_after rows affected words blo bhi slo shi x a)
-    (due : (a : ℕ) → holds olo ohi a ≡ (due_after rows x slo shi a && holds elo ehi a)) where
-  abbrev one : List ℕ
-  one = put_at levels (3 * (k + 1)) slo shi
-
-  abbrev two : List ℕ
-  two = put_at one (3 * (k + 1) + 1) elo ehi
-
-  abbrev three : List ℕ
-  three = put_at two (3 * (k + 1) + 2) olo ohi
-
-  one_long : length one ≡ 774
-  one_long = put_length levels (3 * (k + 1)) slo shi ∙ long
-
-  two_long : length two ≡ 774
-  two_long = put_length one (3 * (k + 1) + 1) elo ehi ∙ one_long
-
-  -- a word before the second set
-  early : (i : ℕ) → i < 2 * (3 * (k + 1) + 1) → get_or three i 0 ≡ get_or one i 0
-  early i h =
-      put_word two (3 * (k + 1) + 2) olo ohi i (λ e. omega arith) (λ e. omega arith)
-      ∙ put_word one (3 * (k + 1) + 1) elo ehi i (λ e. omega arith) (λ e. omega arith)
-
-  low_is : low three (k + 1) ≡ slo
-  low_is = early (2 * (3 * (k + 1))) (omega arith) ∙ put_low levels (3 * (k + 1)) slo shi (omega arith)
-
-  high_is : high three (k + 1) ≡ shi
-  high_is = early (2 * (3 * (k + 1)) + 1) (omega arith) ∙ put_high levels (3 * (k + 1)) slo shi (omega arith)
-
-  enables_are : (a : ℕ) → enables three (k + 1) a ≡ holds elo ehi a
-  enables_are a =
-      put_other two (3 * (k + 1) + 2) olo ohi (3 * (k + 1) + 1) (λ e. omega arith) a
-      ∙ put_here one (3 * (k + 1) + 1) elo ehi (omega (arith, one_long)) a
-
-  pub level_made : {levels' : List ℕ} → levels' ≡ three → Level rows affected words x k levels levels'
-  level_made e = rw e record {
-    below = λ i h. early i (omega arith) ∙ put_word levels (3 * (k + 1)) slo shi i (λ q. omega arith) (λ q. omega arith);
-    stands_more = λ a.
-        ap₂ (λ (u v : ℕ). holds u v a) low_is high_is ∙ more a ∙ ap₂ (λ (u v : ℕ). holds u v a || eqb a x) was.0 was.1;
-    enables_more = λ a l.
-        enables_are a ∙ able a l
-        ∙ ap₂ (λ (u v : ℕ). enabled_after rows affected words u v slo shi x a) before.0 before.1
-        ∙ ap₂ (λ (u v : ℕ). enabled_after rows affected words (get_or levels (2 * (3 * k + 1)) 0) (get_or levels (2 * (3 * k + 1) + 1) 0) u v x a) (sym low_is) (sym high_is);
-    opens_more = λ a.
-        put_here two (3 * (k + 1) + 2) olo ohi (omega (arith, two_long)) a ∙ due a
-        ∙ ap₂ (λ (u v : ℕ). due_after rows x u v a && holds elo ehi a) (sym low_is) (sym high_is)
-        ∙ ap (λ (b : Bool). due_after rows x (low three (k + 1)) (high three (k + 1)) a && b) (sym (enables_are a));
-  }
-
 -- of fewer levels
-pub levels_less : {n : ℕ} {rows position levels : List ℕ} {size : ℕ} → Levels n rows position levels size → (k : ℕ) → k ≤ size → Levels n rows position levels k
+pub levels_less : {n : ℕ} {rows position : List ℕ} {levels : List Level} {size : ℕ} → Levels n rows position levels size → (k : ℕ) → k ≤ size → Levels n rows position levels k
 levels_less h k l = record {
   stood = λ j a i. h.stood j a (omega arith);
   able = λ j a i. h.able j a (omega arith);
@@ -174,26 +122,26 @@ levels_less h k l = record {
 }
 
 -- the sets of one level more
-module _ {n : ℕ} {rows position levels : List ℕ} {k : ℕ} (was : Levels n rows position levels k) (affected : List ℕ) (affecting_are : Affecting n rows affected) (few : n ≤ 128) (x : ℕ)
-    (low_x : x < n) (room : k < length position) {levels' : List ℕ} (made : Level rows affected (words_with rows (words_after rows (take k position)) x) x k levels levels') where
+module _ {n : ℕ} {rows position : List ℕ} {levels : List Level} {k : ℕ} (was : Levels n rows position levels k) (affected : List Set) (affecting_are : Affecting n rows affected) (few : n ≤ 128) (x : ℕ)
+    (low_x : x < n) (room : k < length position) {levels' : List Level} (made : NextLevel rows affected (words_with rows (words_after rows (take k position)) x) x k levels levels') where
   abbrev position' : List ℕ
   position' = set position k x
 
-  -- up to level k all words are as they were
+  -- up to level k all is as it was
   stands_same : (j : ℕ) → j ≤ k → (a : ℕ) → stands levels' j a ≡ stands levels j a
-  stands_same j h a = ap₂ (λ (u v : ℕ). holds u v a) (made.below (2 * (3 * j)) (omega arith)) (made.below (2 * (3 * j) + 1) (omega arith))
+  stands_same j h a = ap (λ (l : Level). holds l.standing.lo l.standing.hi a) (made.below j h)
 
   enables_same : (j : ℕ) → j ≤ k → (a : ℕ) → enables levels' j a ≡ enables levels j a
-  enables_same j h a = ap₂ (λ (u v : ℕ). holds u v a) (made.below (2 * (3 * j + 1)) (omega arith)) (made.below (2 * (3 * j + 1) + 1) (omega arith))
+  enables_same j h a = ap (λ (l : Level). holds l.enabled.lo l.enabled.hi a) (made.below j h)
 
   opens_same : (j : ℕ) → j ≤ k → (a : ℕ) → opens levels' j a ≡ opens levels j a
-  opens_same j h a = ap₂ (λ (u v : ℕ). holds u v a) (made.below (2 * (3 * j + 2)) (omega arith)) (made.below (2 * (3 * j + 2) + 1) (omega arith))
+  opens_same j h a = ap (λ (l : Level). holds l.candidates.lo l.candidates.hi a) (made.below j h)
 
   low_same : (j : ℕ) → j ≤ k → low levels' j ≡ low levels j
-  low_same j h = made.below (2 * (3 * j)) (omega arith)
+  low_same j h = ap (λ (l : Level). l.standing.lo) (made.below j h)
 
   high_same : (j : ℕ) → j ≤ k → high levels' j ≡ high levels j
-  high_same j h = made.below (2 * (3 * j) + 1) (omega arith)
+  high_same j h = ap (λ (l : Level). l.standing.hi) (made.below j h)
 
   front_same : (j : ℕ) → j ≤ k → take j position' ≡ take j position
   front_same j h = take-set-le j position k x h
@@ -224,7 +172,7 @@ module _ {n : ℕ} {rows position levels : List ℕ} {k : ℕ} (was : Levels n r
           let e : j ≡ k + 1 = omega arith in
           rw e
           (made.enables_more a (omega arith)
-          ∙ enabled_more rows affected affecting_are (words_after rows (take k position)) (get_or levels (2 * (3 * k + 1)) 0) (get_or levels (2 * (3 * k + 1) + 1) 0) (low levels k) (high levels k) (low levels' (k + 1)) (high levels' (k + 1)) x a low_x l
+          ∙ enabled_more rows affected affecting_are (words_after rows (take k position)) (level_at levels k).enabled.lo (level_at levels k).enabled.hi (low levels k) (high levels k) (low levels' (k + 1)) (high levels' (k + 1)) x a low_x l
           made.stands_more (was.able k a (omega arith) l)
           ∙ ap (λ (ws : List ℕ). not (stands levels' (k + 1) a) && enabled rows (low levels' (k + 1)) (high levels' (k + 1)) ws a) (sym words_then))
       able j a h l (no g) =

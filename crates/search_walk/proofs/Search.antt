@@ -22,13 +22,14 @@ use Rattle.search_admit.proofs.WordLaws.{words_length, without_length}
 use Rattle.search_admit.specs.Rows.{words_with, replaced_with, words_without, words_after}
 use Rattle.search_admit.specs.Fits.{due_of, ready, refused, reads_recorded, enabled, fits_by, Standing, Tested}
 use Rattle.search_enabled.specs.Affects.{Affecting}
-use Rattle.search_walk.specs.declared.WalkAnswer.TheVariants.{Next, End}
-use Rattle.search_walk.specs.Walks.{stands, enables, opens, low, high, Levels, Level, Remembered, Closed, IsNext, Kept, Walked}
+use Rattle.std.specs.Prelude.{Some, None}
+use Rattle.search_walk.specs.Walks.{level_at, stands, enables, opens, low, high, Levels, NextLevel, Remembered, Closed, IsNext, Kept, Walked}
+use Rattle.search_walk.specs.declared.Level.{Level}
 use Rattle.search_walk.proofs.Gaps.{Gap, closed_front, gap_starts, gap_more, gap_skip, gap_up, gap_last, gap_next}
 use Rattle.search_walk.proofs.Levels.{placed_less, one_more, placed_more, remembered_less, remembered_more, levels_less, levels_more}
 
 -- What the walk goes from: the prefix xs of `size` entries, and the sets of its levels.
-pub record From (n : ℕ) (rows xs : List ℕ) (size : ℕ) (position levels : List ℕ) : Type 0 where
+pub record From (n : ℕ) (rows xs : List ℕ) (size : ℕ) (position : List ℕ) (levels : List Level) : Type 0 where
   pub few : n ≤ 128
   pub room : size < n
   pub start : take size position ≡ xs
@@ -36,12 +37,12 @@ pub record From (n : ℕ) (rows xs : List ℕ) (size : ℕ) (position levels : L
   pub whole : length position ≡ 128
 
 -- The invariant: c is the next candidate at level k, and nothing that passes lies between xs and it.
-pub record Search (n : ℕ) (rows xs : List ℕ) (size : ℕ) (position places levels words replaced : List ℕ) (lo hi k c left : ℕ) : Type 0 where
+pub record Search (n : ℕ) (rows xs : List ℕ) (size : ℕ) (position places : List ℕ) (levels : List Level) (words replaced : List ℕ) (candidates : Set) (k c left : ℕ) : Type 0 where
   pub from : From n rows xs size position levels
   pub within : k ≤ size
   pub bounded : c ≤ n
   pub turns : k * n + (n - c) ≤ left
-  pub open_at : (lo ≡ get_or levels (2 * (3 * k + 2)) 0) × (hi ≡ get_or levels (2 * (3 * k + 2) + 1) 0)
+  pub open_at : candidates ≡ (level_at levels k).candidates
   pub places_hold : Placed n (take k position) places
   pub long : length places ≡ 128
   pub remembers : Remembered rows position words replaced k
@@ -53,7 +54,7 @@ pub square : (n : ℕ) → n ≤ 128 → n * n ≤ 16384
 square n h = mul-le-mul h h
 
 -- what the sets of a level say of a candidate
-module _ {n : ℕ} {rows position levels : List ℕ} {size : ℕ} (h : Levels n rows position levels size) {k : ℕ} (within : k ≤ size) where
+module _ {n : ℕ} {rows position : List ℕ} {levels : List Level} {size : ℕ} (h : Levels n rows position levels size) {k : ℕ} (within : k ≤ size) where
   standing : Standing (take k position) (low levels k) (high levels k)
   standing a l = h.stood k a within l
 
@@ -83,10 +84,10 @@ module _ {n : ℕ} {rows position levels : List ℕ} {size : ℕ} (h : Levels n 
       regroup true false r q w = refl
       regroup false s r q w = refl
 
-pub search_starts : {n : ℕ} {rows xs : List ℕ} {size : ℕ} {position places levels words replaced : List ℕ} {lo hi : ℕ}
+pub search_starts : {n : ℕ} {rows xs : List ℕ} {size : ℕ} {position places : List ℕ} {levels : List Level} {words replaced : List ℕ} {candidates : Set}
     → From n rows xs size position levels → Kept n rows position places levels words replaced size → length places ≡ 128 → length words ≡ 128
-    → (lo ≡ get_or levels (2 * (3 * size + 2)) 0) × (hi ≡ get_or levels (2 * (3 * size + 2) + 1) 0)
-    → Search n rows xs size position places levels words replaced lo hi size 0 (n * n)
+    → candidates ≡ (level_at levels size).candidates
+    → Search n rows xs size position places levels words replaced candidates size 0 (n * n)
 search_starts {n} {rows} {xs} {size} {position} {places} from h l w s = record {
   from = from;
   within = omega arith;
@@ -101,8 +102,8 @@ search_starts {n} {rows} {xs} {size} {position} {places} from h l w s = record {
   gap = λ p tested closed passes. subst (λ (ys : List ℕ). Gap p n xs (ys ++ 0 ∷ [])) (sym from.start) (gap_starts p n xs);
 }
 
-module _ {n : ℕ} {rows xs : List ℕ} {size : ℕ} {position places levels words replaced : List ℕ} {lo hi k c left : ℕ}
-    (at : Search n rows xs size position places levels words replaced lo hi k c left) where
+module _ {n : ℕ} {rows xs : List ℕ} {size : ℕ} {position places : List ℕ} {levels : List Level} {words replaced : List ℕ} {candidates : Set} {k c left : ℕ}
+    (at : Search n rows xs size position places levels words replaced candidates k c left) where
   -- with xs its first k entries pass
   front : (p : List ℕ → Bool) → Closed p → p xs ≡ true → p (take k position) ≡ true
   front p closed passes =
@@ -111,19 +112,19 @@ module _ {n : ℕ} {rows xs : List ℕ} {size : ℕ} {position places levels wor
       ∙ take-append-drop k (take size position) ∙ at.from.start) ∙ passes)
 
   -- what is open, by the level
-  open_is : (x : ℕ) → holds lo hi x ≡ opens levels k x
-  open_is x = ap₂ (λ (u v : ℕ). holds u v x) at.open_at.0 at.open_at.1
+  open_is : (x : ℕ) → holds candidates.lo candidates.hi x ≡ opens levels k x
+  open_is x = ap (λ (s : Set). holds s.lo s.hi x) at.open_at
 
   -- what the tests of a candidate say
   tells : (x : ℕ) → x < n → (p : List ℕ → Bool) → Tested p n rows → Closed p → p xs ≡ true
-      → (not (member (take k position) x) && p (take k position ++ (x ∷ []))) ≡ (holds lo hi x && not (refused rows places (low levels k) (high levels k) x))
+      → (not (member (take k position) x) && p (take k position ++ (x ∷ []))) ≡ (holds candidates.lo candidates.hi x && not (refused rows places (low levels k) (high levels k) x))
   tells x l p tested closed passes =
       open_tells at.from.levelled at.within x l p tested (front p closed passes) at.places_hold
       ∙ ap (λ (b : Bool). b && not (refused rows places (low levels k) (high levels k) x)) (sym (open_is x))
 
   -- candidates that are not open are passed by
-  pub search_to : (y : ℕ) → c ≤ y → y ≤ n → ((i : ℕ) → c ≤ i → i < y → holds lo hi i ≡ false)
-      → Search n rows xs size position places levels words replaced lo hi k y left
+  pub search_to : (y : ℕ) → c ≤ y → y ≤ n → ((i : ℕ) → c ≤ i → i < y → holds candidates.lo candidates.hi i ≡ false)
+      → Search n rows xs size position places levels words replaced candidates k y left
   search_to y l few none = record {
     from = at.from;
     within = at.within;
@@ -145,7 +146,7 @@ module _ {n : ℕ} {rows xs : List ℕ} {size : ℕ} {position places levels wor
 
   -- the candidate is refused
   pub search_on : c < n → refused rows places (low levels k) (high levels k) c ≡ true
-      → Search n rows xs size position places levels words replaced lo hi k (c + 1) (left - 1)
+      → Search n rows xs size position places levels words replaced candidates k (c + 1) (left - 1)
   search_on l is = record {
     from = at.from;
     within = at.within;
@@ -160,7 +161,7 @@ module _ {n : ℕ} {rows xs : List ℕ} {size : ℕ} {position places levels wor
         (less_fork (take k position) c (c + 1) [] [] (omega arith));
     gap = λ p tested closed passes.
         rw add-one (gap_more p n closed xs (take k position) c
-        (tells c l p tested closed passes ∙ ap (λ (b : Bool). holds lo hi c && not b) is ∙ and-false (holds lo hi c)) (at.gap p tested closed passes));
+        (tells c l p tested closed passes ∙ ap (λ (b : Bool). holds candidates.lo candidates.hi c && not b) is ∙ and-false (holds candidates.lo candidates.hi c)) (at.gap p tested closed passes));
   }
 
   module _ (j last : ℕ) (level : j + 1 ≡ k) (is : last ≡ get_or position j 0) (whole : length position ≡ 128) where
@@ -174,8 +175,8 @@ module _ {n : ℕ} {rows xs : List ℕ} {size : ℕ} {position places levels wor
     last_below = (distinct_entry n (take j position) last [] (subst (λ (ys : List ℕ). distinct n [] ys ≡ true) shorter at.places_hold.different)).0
 
     -- no candidate is left at this level: the last entry is taken away
-    pub search_up : (s : Set) → n ≤ c → (s.lo ≡ get_or levels (2 * (3 * j + 2)) 0) × (s.hi ≡ get_or levels (2 * (3 * j + 2) + 1) 0)
-        → Search n rows xs size position (set places last 255) levels (words_without rows words replaced j last) replaced s.lo s.hi j (last + 1) (left - 1)
+    pub search_up : (s : Set) → n ≤ c → s ≡ (level_at levels j).candidates
+        → Search n rows xs size position (set places last 255) levels (words_without rows words replaced j last) replaced s j (last + 1) (left - 1)
     search_up s none_left open_at = record {
       from = at.from;
       within = omega (arith, at.within);
@@ -197,7 +198,7 @@ module _ {n : ℕ} {rows xs : List ℕ} {size : ℕ} {position places levels wor
         point = ap₂ (λ (ys : List ℕ) (o : ℕ). ys ++ o ∷ []) shorter (omega (arith, at.bounded))
 
   -- no candidate is left at all
-  pub search_ends : {position' places' levels' words' replaced' : List ℕ} → k ≡ 0 → n ≤ c → Walked n rows xs End position' places' levels' words' replaced'
+  pub search_ends : {position' places' : List ℕ} {levels' : List Level} {words' replaced' : List ℕ} → k ≡ 0 → n ≤ c → Walked n rows xs None position' places' levels' words' replaced'
   search_ends z none_left = record {
     ready = tt;
     means = λ p tested closed passes. gap_last p n xs (subst (λ (ys : List ℕ). Gap p n xs ys) point (at.gap p tested closed passes));
@@ -207,7 +208,7 @@ module _ {n : ℕ} {rows xs : List ℕ} {size : ℕ} {position places levels wor
       point = ap₂ (λ (i o : ℕ). take i position ++ o ∷ []) z (omega (arith, at.bounded))
 
   -- no turn is left
-  pub search_spent : {position' places' levels' words' replaced' : List ℕ} → left ≡ 0 → Walked n rows xs End position' places' levels' words' replaced'
+  pub search_spent : {position' places' : List ℕ} {levels' : List Level} {words' replaced' : List ℕ} → left ≡ 0 → Walked n rows xs None position' places' levels' words' replaced'
   search_spent h = search_ends (no_level k (omega (arith, at.turns))) (omega (arith, at.turns))
     where
       no_level : (j : ℕ) → j * n ≡ 0 → j ≡ 0
@@ -215,11 +216,11 @@ module _ {n : ℕ} {rows xs : List ℕ} {size : ℕ} {position places levels wor
       no_level (suc j) e = absurd (omega (arith, at.from.room))
 
   -- the candidate is open and not refused
-  pub search_found : (affected : List ℕ) → Affecting n rows affected → length replaced ≡ 256 → c < n → holds lo hi c ≡ true
+  pub search_found : (affected : List Set) → Affecting n rows affected → length replaced ≡ 256 → c < n → holds candidates.lo candidates.hi c ≡ true
       → refused rows places (low levels k) (high levels k) c ≡ false
-      → {position' places' levels' words' replaced' : List ℕ} → position' ≡ set position k c → places' ≡ set places c k → words' ≡ words_with rows words c
-      → replaced' ≡ replaced_with rows words replaced k c → Level rows affected words' c k levels levels'
-      → Walked n rows xs (Next (k + 1)) position' places' levels' words' replaced'
+      → {position' places' : List ℕ} {levels' : List Level} {words' replaced' : List ℕ} → position' ≡ set position k c → places' ≡ set places c k → words' ≡ words_with rows words c
+      → replaced' ≡ replaced_with rows words replaced k c → NextLevel rows affected words' c k levels levels'
+      → Walked n rows xs (Some (k + 1)) position' places' levels' words' replaced'
   search_found affected affecting_are full l is_open free {levels' = levels'} d e f g made = rw (d, e, f, g) record {
     ready = (
       omega (arith, at.within, at.from.room),
@@ -229,7 +230,7 @@ module _ {n : ℕ} {rows xs : List ℕ} {size : ℕ} {position places levels wor
       record {
         placed = stands_placed;
         levelled = levels_more (levels_less at.from.levelled k at.within) affected affecting_are at.from.few c l inside
-            (subst (λ (ws : List ℕ). Level rows affected ws c k levels levels') (f ∙ ap (λ (ws : List ℕ). words_with rows ws c) at.remembers.now_are) made);
+            (subst (λ (ws : List ℕ). NextLevel rows affected ws c k levels levels') (f ∙ ap (λ (ws : List ℕ). words_with rows ws c) at.remembers.now_are) made);
         remembered = remembered_more at.remembers c at.from.whole full (omega (arith, at.within, at.from.few, at.from.room));
       },
     );
@@ -253,7 +254,7 @@ module _ {n : ℕ} {rows xs : List ℕ} {size : ℕ} {position places levels wor
       stands_placed = placed_more position k c inside n places at.long at.places_hold l new
 
 -- the same point, by other names
-pub search_same : {n : ℕ} {rows xs : List ℕ} {size : ℕ} {position position' places places' levels levels' words words' replaced replaced' : List ℕ} {s s' : Set} {k k' c c' left : ℕ}
-    → Search n rows xs size position places levels words replaced s.lo s.hi k c left → position' ≡ position → places' ≡ places → levels' ≡ levels → words' ≡ words → replaced' ≡ replaced
-    → k' ≡ k → c' ≡ c → s' ≡ s → Search n rows xs size position' places' levels' words' replaced' s'.lo s'.hi k' c' left
+pub search_same : {n : ℕ} {rows xs : List ℕ} {size : ℕ} {position position' places places' : List ℕ} {levels levels' : List Level} {words words' replaced replaced' : List ℕ} {s s' : Set} {k k' c c' left : ℕ}
+    → Search n rows xs size position places levels words replaced s k c left → position' ≡ position → places' ≡ places → levels' ≡ levels → words' ≡ words → replaced' ≡ replaced
+    → k' ≡ k → c' ≡ c → s' ≡ s → Search n rows xs size position' places' levels' words' replaced' s' k' c' left
 search_same at o p l w r k c s = rw (o, p, l, w, r, k, c, s) at

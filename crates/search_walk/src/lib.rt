@@ -4,97 +4,95 @@
 ghost use Rattle.std.specs.Prelude.{◌≡◌, ◌+◌, ◌*◌, ◌<◌, ◌≤◌, length, get_or, set, take};
 ghost use Rattle.search_admit.specs.Rows.{words_with, replaced_with, words_without};
 ghost use Rattle.search_enabled.specs.Affects.{Affecting};
-ghost use Rattle.search_walk.specs.Walks.{levels_length, low, high, Level, Entered, Kept, Walked};
+ghost use Rattle.search_walk.specs.Walks.{level_at, NextLevel, Entered, Kept, Walked};
 
 use record_decoded::position::Position;
 use record_decoded::types::{OperationNo, wide};
 use relation_places::ABSENT;
 use search_admit::{REPLACED, TABLE, WORDS, is_refused, unwrite, write};
 use search_enabled::{AFFECTED, enabled_after, open_after};
-use search_sets::{Set, at, first, insert, put};
+use search_sets::Set;
 
-// The length of the next consistent prefix, or that there is none.
-#[derive(Clone, Copy)]
-pub enum WalkAnswer {
-    Next(usize),
-    End,
+// The sets of a prefix: the operations that stand, those that are enabled behind them, and those of these that may follow as far as rule 12 goes.
+#[derive(Clone, Copy, Debug, PartialEq, Eq)]
+pub struct Level {
+    pub standing: Set,
+    pub enabled: Set,
+    pub candidates: Set,
 }
 
-// The sets of a level, in their order: the operations that stand, those that are enabled behind them, and those of these that are open to follow.
-pub const SETS: usize = 3;
+impl Level {
+    pub const EMPTY: Level = Level {
+        standing: Set::EMPTY,
+        enabled: Set::EMPTY,
+        candidates: Set::EMPTY,
+    };
+}
 
-pub const ENABLED: usize = 1;
+// A level for each number of entries.
+pub const LEVELS: usize = Position::LIMIT + 1;
 
-pub const OPEN: usize = 2;
-
-// The words of the sets of all levels: one level for each number of entries, two words a set.
-pub const LEVELS: usize = 2 * SETS * (Position::LIMIT + 1);
-
-// Makes the sets of level k + 1 from those of level k, of which those that stand are given, x being the entry at k.
+// Makes level k + 1 from level k, x being the entry at k.
 fn add_level(
-    levels: &mut [u64],
+    levels: &mut [Level; LEVELS],
     k: usize,
-    standing: Set,
     words: &[u64; WORDS],
     rows: &[u64; TABLE],
-    affected: &[u64; AFFECTED],
+    affected: &[Set; AFFECTED],
     x: OperationNo,
 )
-    requires { (k < 128) × (x.0 < 128) × (length levels.old ≡ levels_length) × (standing.lo ≡ low levels.old k) × (standing.hi ≡ high levels.old k) }
-    ensures { Level rows.now affected.now words.now x.0 k levels.old levels.new }
+    requires { (k < 128) × (x.0 < 128) }
+    ensures { NextLevel rows.now affected.now words.now x.0 k levels.old levels.new }
 {
-    let stand = insert(standing, x.0);
-    let before = at(levels, SETS * k + ENABLED);
-    let enabled = enabled_after(rows, affected, words, before, stand, x);
-    let open = open_after(rows, enabled, stand, x);
-    let level = SETS * (k + 1);
-    put(levels, level, stand);
-    put(levels, level + ENABLED, enabled);
-    put(levels, level + OPEN, open);
+    let before = levels[k];
+    let standing = before.standing.insert(x.0);
+    let enabled = enabled_after(rows, affected, words, before.enabled, standing, x);
+    let candidates = open_after(rows, enabled, standing, x);
+    levels[k + 1] = Level {
+        standing,
+        enabled,
+        candidates,
+    };
 }
 
 // k as the place of operation x, what x writes, and the sets of the level behind it.
 fn add_entry(
     k: usize,
-    places: &mut [u8],
-    levels: &mut [u64],
-    standing: Set,
+    places: &mut [u8; Position::LIMIT],
+    levels: &mut [Level; LEVELS],
     words: &mut [u64; WORDS],
-    replaced: &mut [u64],
+    replaced: &mut [u64; REPLACED],
     rows: &[u64; TABLE],
-    affected: &[u64; AFFECTED],
+    affected: &[Set; AFFECTED],
     x: OperationNo,
 )
-    requires { (k < 128) × (x.0 < 128) × (length places.old ≡ 128) × (length levels.old ≡ levels_length) × (standing.lo ≡ low levels.old k) × (standing.hi ≡ high levels.old k) × (length words.old ≡ 128) × (length replaced.old ≡ 256) }
-    ensures { (places.new ≡ set places.old x.0 k) × (words.new ≡ words_with rows.now words.old x.0) × (replaced.new ≡ replaced_with rows.now words.old replaced.old k x.0) × Level rows.now affected.now words.new x.0 k levels.old levels.new }
+    requires { (k < 128) × (x.0 < 128) }
+    ensures { (places.new ≡ set places.old x.0 k) × (words.new ≡ words_with rows.now words.old x.0) × (replaced.new ≡ replaced_with rows.now words.old replaced.old k x.0) × NextLevel rows.now affected.now words.new x.0 k levels.old levels.new }
 {
     let o = x.0;
     places[o] = k as u8;
     write(rows, words, replaced, k, x);
-    add_level(levels, k, standing, words, rows, affected, x);
+    add_level(levels, k, words, rows, affected, x);
 }
 
 // Operation x, which is open at level k, at the place k, if it is not refused. The entry itself is the caller's to write.
 pub fn enter(
     k: usize,
     places: &mut [u8; Position::LIMIT],
-    levels: &mut [u64; LEVELS],
+    levels: &mut [Level; LEVELS],
     words: &mut [u64; WORDS],
     replaced: &mut [u64; REPLACED],
     rows: &[u64; TABLE],
-    affected: &[u64; AFFECTED],
+    affected: &[Set; AFFECTED],
     x: OperationNo,
 ) -> bool
     requires { (k < 128) × (x.0 < 128) × (length places.old ≡ 128) × (length words.old ≡ 128) }
     ensures { Entered rows.now affected.now x.0 k result places.old levels.old words.old replaced.old places.new levels.new words.new replaced.new }
 {
-    let standing = at(levels, SETS * k);
-    if is_refused(rows, places, standing, x) {
+    if is_refused(rows, places, levels[k].standing, x) {
         return false;
     }
-    add_entry(
-        k, places, levels, standing, words, replaced, rows, affected, x,
-    );
+    add_entry(k, places, levels, words, replaced, rows, affected, x);
     true
 }
 
@@ -117,54 +115,49 @@ fn remove_entry(
 }
 
 // From the first `size` entries of the position. `levels` has the sets of its first j entries as level j, `places` the places of all entries, `words`
-// what they wrote, and `replaced` the words that each wrote over. The next candidate is the lowest that is open, and not refused.
+// what they wrote, and `replaced` the words that each wrote over. The next candidate is the lowest that is open, and not refused. The answer is the length of the
+// next consistent prefix, or that there is none.
 pub fn walk(
     n: usize,
     position: &mut [u8; Position::LIMIT],
     size: usize,
     places: &mut [u8; Position::LIMIT],
-    levels: &mut [u64; LEVELS],
+    levels: &mut [Level; LEVELS],
     words: &mut [u64; WORDS],
     replaced: &mut [u64; REPLACED],
     rows: &[u64; TABLE],
-    affected: &[u64; AFFECTED],
-) -> WalkAnswer
+    affected: &[Set; AFFECTED],
+) -> Option<usize>
     requires kept { (n ≤ 128) × (size < n) × Kept n rows.now position.old places.old levels.old words.old replaced.old size × Affecting n rows.now affected.now }
     requires lengths { (length position.old ≡ 128) × (length places.old ≡ 128) × (length words.old ≡ 128) }
     ensures { Walked n rows.now (take size position.old) result position.new places.new levels.new words.new replaced.new }
 {
     let mut k = size;
     let mut c = 0;
-    let mut candidates = at(levels, SETS * k + OPEN);
+    let mut candidates = levels[k].candidates;
     // The turns that are left.
     let mut left = n * n;
     while left > 0 {
         left -= 1;
-        let x = first(candidates, c);
-        if x < n {
-            if enter(
-                k,
-                places,
-                levels,
-                words,
-                replaced,
-                rows,
-                affected,
-                OperationNo(x),
-            ) {
-                position[k] = x as u8;
-                return WalkAnswer::Next(k + 1);
+        match candidates.first_from(c) {
+            Some(x) if x < n => {
+                let o = OperationNo(x);
+                if enter(k, places, levels, words, replaced, rows, affected, o) {
+                    position[k] = x as u8;
+                    return Some(k + 1);
+                }
+                c = x + 1;
             }
-            c = x + 1;
-        } else {
-            if k == 0 {
-                return WalkAnswer::End;
+            _ => {
+                if k == 0 {
+                    return None;
+                }
+                k -= 1;
+                let removed = remove_entry(position, k, places, words, replaced, rows);
+                c = removed.0 + 1;
+                candidates = levels[k].candidates;
             }
-            k -= 1;
-            let removed = remove_entry(position, k, places, words, replaced, rows);
-            c = removed.0 + 1;
-            candidates = at(levels, SETS * k + OPEN);
         }
     }
-    WalkAnswer::End
+    None
 }

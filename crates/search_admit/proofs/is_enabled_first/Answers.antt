@@ -6,15 +6,15 @@ use Rattle.search_admit.specs.Fits.{reads_recorded, enabled}
 use Rattle.search_admit.proofs.TestLaws.{ready_by}
 use Rattle.search_admit.proofs.is_enabled_first.Goals as goal
 
-pub returns-then-not-subset : goal.returns-then-not-subset
+pub returns-then-not-is_subset : goal.returns-then-not-is_subset
 unfolding enabled
-returns-then-not-subset c =
+returns-then-not-is_subset c =
     let a = c.args in
     ap (λ (b : Bool). b && reads_recorded a.rows.now 0 0 a.words.now a.x.0)
-    (sym (c.if-not-subset.true) ∙ ready_by a.rows.now 0 0 a.x.0 c.set_of.ensures.0 c.set_of.ensures.1 c.subset.ensures)
+    (sym (c.if-not-is_subset.true) ∙ ready_by a.rows.now 0 0 a.x.0 c.set_of.ensures.0 c.set_of.ensures.1 c.is_subset.ensures)
 
 pub returns : goal.returns
 unfolding enabled
 returns c =
     let a = c.args in
-    kept (ready_by a.rows.now 0 0 a.x.0 c.set_of.ensures.0 c.set_of.ensures.1 c.subset.ensures) (c.if-not-subset.false) c.reads_words.ensures
+    kept (ready_by a.rows.now 0 0 a.x.0 c.set_of.ensures.0 c.set_of.ensures.1 c.is_subset.ensures) (c.if-not-is_subset.false) c.reads_words.ensures

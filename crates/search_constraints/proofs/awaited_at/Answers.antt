@@ -6,7 +6,7 @@ use mathlib.Core.Bool.{◌||◌}
 use lib.ListN.{get_or}
 use Rattle.relation_marks.specs.Marks.{mark_at}
 use Rattle.search_sets.specs.Set.{holds}
-use Rattle.search_sets.proofs.Members.{grown_starts, grown_more, grown_all}
+use Rattle.search_sets.proofs.Loops.{grown_starts, grown_more, grown_all}
 use Rattle.search_admit.specs.Rows.{awaited_by}
 use Rattle.model.specs.Execution.{Kind, kind_of}
 use Rattle.search_constraints.proofs.awaited_at.Goals as goal

@@ -3,7 +3,7 @@ use Prim.Native.Nat.{◌≤◌}
 use lib.ListN.{get_or}
 use Rattle.relation_marks.specs.Marks.{mark_at}
 use Rattle.search_sets.specs.Set.{holds}
-use Rattle.search_sets.proofs.Members.{Grown}
+use Rattle.search_sets.proofs.Loops.{Grown}
 use Rattle.search_admit.specs.Rows.{awaited_by}
 use Rattle.model.specs.Execution.{kind_of}
 use Rattle.search_constraints.proofs.awaited_at.Given as goal

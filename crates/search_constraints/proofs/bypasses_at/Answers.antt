@@ -8,7 +8,7 @@ use lib.Dec.{eqb}
 use Rattle.model.specs.Execution.{Kind, kind_of, is_store, RV, number_from}
 use Rattle.search_sets.specs.Set.{holds}
 use Rattle.search_constraints.specs.Rows.{own_store_by}
-use Rattle.search_sets.proofs.Members.{grown_starts, grown_more, grown_all, holds_none}
+use Rattle.search_sets.proofs.Loops.{grown_starts, grown_more, grown_all, holds_none}
 use Rattle.search_constraints.proofs.SetLaws.{bypass_R, bypass_none}
 use Rattle.search_constraints.proofs.bypasses_at.Goals as goal
 

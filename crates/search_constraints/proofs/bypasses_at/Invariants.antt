@@ -6,7 +6,7 @@ use lib.Dec.{eqb, ltb}
 use Rattle.model.specs.Execution.{kind_of, is_store, RV, number_from}
 use Rattle.relation_marks.specs.Marks.{shared_by}
 use Rattle.search_sets.specs.Set.{holds}
-use Rattle.search_sets.proofs.Members.{Grown}
+use Rattle.search_sets.proofs.Loops.{Grown}
 use Rattle.search_constraints.proofs.bypasses_at.Given as goal
 
 abbrev pub invariant-loop-v : goal.invariant-loop-v

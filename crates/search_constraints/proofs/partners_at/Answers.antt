@@ -1,7 +1,7 @@
 -- Not an RV, not of a release to WB, and else the RVs of the instruction.
 use mathlib.Core.Path.{ap, ◌∙◌}
 use mathlib.Core.Bool.{Bool, ◌||◌, not}
-use Rattle.search_sets.proofs.Members.{holds_none}
+use Rattle.search_sets.proofs.Loops.{holds_none}
 use Rattle.search_constraints.specs.Rows.{is_remote}
 use Rattle.search_constraints.proofs.PartnerLaws.{no_remote, no_atomic, atomic_remotes}
 use Rattle.record_decoded.specs.Kinds.{meant}

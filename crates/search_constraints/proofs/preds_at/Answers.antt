@@ -7,7 +7,7 @@ use lib.ListN.{get_or}
 use Rattle.model.specs.Execution.{Kind}
 use Rattle.relation_marks.specs.Marks.{mark_at}
 use Rattle.search_sets.specs.Set.{holds}
-use Rattle.search_sets.proofs.Members.{grown_starts, grown_more, grown_all}
+use Rattle.search_sets.proofs.Loops.{grown_starts, grown_more, grown_all}
 use Rattle.search_constraints.specs.Rows.{linked_from}
 use Rattle.search_constraints.proofs.preds_at.Goals as goal
 

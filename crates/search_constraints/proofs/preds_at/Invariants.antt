@@ -1,7 +1,7 @@
 -- Each turn takes in the operations of one instruction more.
 use Prim.Native.Nat.{◌≤◌}
 use Rattle.search_sets.specs.Set.{holds}
-use Rattle.search_sets.proofs.Members.{Grown}
+use Rattle.search_sets.proofs.Loops.{Grown}
 use Rattle.search_constraints.specs.Rows.{linked_of}
 use Rattle.search_constraints.proofs.preds_at.Given as goal
 

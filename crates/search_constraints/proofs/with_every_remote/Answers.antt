@@ -7,7 +7,7 @@ use native.Mathlib.Omega.{arith}
 use Rattle.base.specs.Below.{any_below}
 use Rattle.model.specs.Execution.{RV, number_from}
 use Rattle.search_sets.specs.Set.{holds}
-use Rattle.search_sets.proofs.Members.{grown_starts, grown_more}
+use Rattle.search_sets.proofs.Loops.{grown_starts, grown_more}
 use Rattle.search_constraints.specs.Rows.{is_remote}
 use Rattle.record_decoded.specs.Kinds.{meant}
 use Rattle.search_constraints.proofs.with_every_remote.Goals as goal

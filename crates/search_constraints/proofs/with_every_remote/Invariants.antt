@@ -3,7 +3,7 @@ use Prim.Native.Nat.{◌≤◌}
 use lib.Dec.{eqb}
 use Rattle.model.specs.Execution.{RV, number_from}
 use Rattle.search_sets.specs.Set.{holds}
-use Rattle.search_sets.proofs.Members.{Grown}
+use Rattle.search_sets.proofs.Loops.{Grown}
 use Rattle.record_decoded.specs.Kinds.{meant}
 use Rattle.search_constraints.proofs.with_every_remote.Given as goal
 

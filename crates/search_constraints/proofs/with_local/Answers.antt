@@ -11,7 +11,7 @@ use Rattle.model.proofs.Numbers.{role_before_remotes}
 use Rattle.record_decoded.specs.Kinds.{meant, role_numbered}
 use Rattle.relation_links.specs.Linked.{linked_by}
 use Rattle.search_sets.specs.Set.{holds}
-use Rattle.search_sets.proofs.Members.{grown_starts, grown_more}
+use Rattle.search_sets.proofs.Loops.{grown_starts, grown_more}
 use Rattle.search_constraints.specs.Rows.{local_linked}
 use Rattle.search_constraints.proofs.RemoteLaws.{remotes_few}
 use Rattle.search_constraints.proofs.with_local.Goals as goal

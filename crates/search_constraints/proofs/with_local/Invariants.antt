@@ -7,7 +7,7 @@ use Rattle.model.specs.Execution.{F, kind_row}
 use Rattle.record_decoded.specs.Kinds.{meant, role_numbered}
 use Rattle.relation_links.specs.Linked.{linked_by}
 use Rattle.search_sets.specs.Set.{holds}
-use Rattle.search_sets.proofs.Members.{Grown}
+use Rattle.search_sets.proofs.Loops.{Grown}
 use Rattle.search_constraints.proofs.with_local.Given as goal
 
 abbrev pub invariant-loop-place : goal.invariant-loop-place

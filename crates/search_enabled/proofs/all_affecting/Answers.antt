@@ -24,4 +24,4 @@ returns c =
     let written = writing (ap not (ne_eqb _ 0 (λ e. c.if-count-eq0.false (c.words_read-count.ensures.0 ∙ e)))) in
     affects_some g.rows.now a g.y.0 c.words_read-count.ensures.0 preds.result.lo preds.result.hi stores.result.lo stores.result.hi locals.result.lo locals.result.hi all.result.lo all.result.hi
     preds.ensures.0 preds.ensures.1 stores.ensures.0 stores.ensures.1 c.if-count-eq0.false
-    (locals.ensures a (omega arith)) (all.ensures a ∙ ap (λ (b : Bool). holds locals.result.lo locals.result.hi a || b) (any_below_same _ _ _ (λ h m. written _ a (omega arith) l))) (c.union.ensures a)
+    (locals.ensures a (omega arith)) (all.ensures a ∙ ap (λ (b : Bool). holds locals.result.lo locals.result.hi a || b) (any_below_same _ _ _ (λ h m. written _ a (omega arith) l))) (c.bitor.ensures a)

@@ -1,7 +1,7 @@
 -- One operation after the other.
 use Rattle.search_admit.specs.Rows.{first_words}
 use Rattle.search_admit.specs.Fits.{enabled}
-use Rattle.search_sets.proofs.Members.{taken_starts, taken_on, taken_ends, holds_none}
+use Rattle.search_sets.proofs.Loops.{taken_starts, taken_on, taken_ends, holds_none}
 use mathlib.Core.Bool.{Bool, ◌||◌}
 use mathlib.Core.Path.{ap, ◌∙◌}
 use native.Mathlib.Omega.{arith}

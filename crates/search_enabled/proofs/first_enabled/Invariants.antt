@@ -1,7 +1,7 @@
 -- One operation after the other.
 use Rattle.search_admit.specs.Rows.{first_words}
 use Rattle.search_admit.specs.Fits.{enabled}
-use Rattle.search_sets.proofs.Members.{Taken}
+use Rattle.search_sets.proofs.Loops.{Taken}
 use Rattle.search_sets.specs.Set.{holds}
 use Prim.Native.Nat.{◌≤◌}
 use Rattle.search_enabled.proofs.first_enabled.Given as goal

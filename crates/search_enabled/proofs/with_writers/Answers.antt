@@ -1,10 +1,11 @@
 -- One word that is read after the other.
 use Prim.Native.Nat.{ℕ, ◌%◌}
 use native.Mathlib.Omega.{arith}
-use mathlib.Core.Path.{◌≡◌, ap, ap₂, ◌∙◌}
+use mathlib.Core.Path.{◌≡◌, ap, ◌∙◌}
 use mathlib.Core.Bool.{◌||◌}
 use Rattle.base.specs.Below.{any_below}
-use Rattle.search_sets.specs.Set.{holds, set_at}
+use Rattle.search_sets.specs.Set.{holds}
+use Rattle.search_sets.specs.Tables.{set_at}
 use Rattle.search_admit.specs.Rows.{visible_word}
 use Rattle.search_enabled.proofs.AffectLaws.{writers_none, writers_more}
 use Rattle.search_enabled.proofs.with_writers.Goals as goal
@@ -18,12 +19,11 @@ loop-h-smaller c = omega (arith, c.loop-h-test.true)
 pub loop-h-preserved : goal.loop-h-preserved
 loop-h-preserved c =
     let g = c.args in
-    let inv = c.loop-h.invariant in
-    let more = c.at-more.ensures in (
+    let inv = c.loop-h.invariant in (
       inv.0,
       omega (arith, c.loop-h-test.true),
       λ a. writers_more (λ j. set_at g.writers.now (visible_word g.rows.now j g.y.0 % 64) a) _ (holds g.set.lo g.set.hi a) (inv.2 a)
-          (ap₂ (λ (u v : ℕ). holds u v a) more.0 more.1 ∙ ap (λ (v : ℕ). set_at g.writers.now (v % 64) a) c.word_of.ensures.0) (c.union-all.ensures a),
+          (ap (λ (v : ℕ). set_at g.writers.now (v % 64) a) c.word_of-place.ensures.0) (c.bitor-all.ensures a),
     )
 
 pub returns : goal.returns

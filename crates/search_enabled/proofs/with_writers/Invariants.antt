@@ -3,7 +3,8 @@ use Prim.Native.Nat.{ℕ, ◌%◌, ◌≤◌}
 use mathlib.Core.Path.{◌≡◌}
 use mathlib.Core.Bool.{◌||◌}
 use Rattle.base.specs.Below.{any_below}
-use Rattle.search_sets.specs.Set.{holds, set_at}
+use Rattle.search_sets.specs.Set.{holds}
+use Rattle.search_sets.specs.Tables.{set_at}
 use Rattle.search_admit.specs.Rows.{visible_word}
 use Rattle.search_enabled.proofs.with_writers.Given as goal
 

@@ -5,7 +5,7 @@ use Rattle.search_walk.proofs.walk.Given as goal
 
 abbrev pub invariant-loop-left : goal.invariant-loop-left
 invariant-loop-left l =
-    Search l.n l.rows (take l.size l.initial.position) l.size l.position l.places l.levels l.words l.replaced l.candidates.lo l.candidates.hi l.k l.c l.left
+    Search l.n l.rows (take l.size l.initial.position) l.size l.position l.places l.levels l.words l.replaced l.candidates l.k l.c l.left
 
 abbrev pub decreases-loop-left : goal.decreases-loop-left
 decreases-loop-left l =

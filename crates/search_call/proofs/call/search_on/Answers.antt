@@ -29,8 +29,8 @@ pub affected_by-affected-requires : goal.affected_by-affected-requires
 affected_by-affected-requires c = let pre = c.requires in
     let compiled = pre.accepted.1 c.args.bytes.now in omega (arith, compiled.tabled.counts, pre.accepted.0.operations_few)
 
-pub search_from-outcome-requires : goal.search_from-outcome-requires
-search_from-outcome-requires c =
+pub search_from-requires : goal.search_from-requires
+search_from-requires c =
     let pre = c.requires in
     let compiled = pre.accepted.1 c.args.bytes.now in
     let p = c.saved_position-given.ensures in (
@@ -41,8 +41,8 @@ search_from-outcome-requires c =
       c.affected_by-affected.ensures,
     )
 
-pub returns-then-not-consistent : goal.returns-then-not-consistent
-returns-then-not-consistent c =
+pub returns-in_default : goal.returns-in_default
+returns-in_default c =
     let a = c.args in
     let pre = c.requires in
     let compiled = pre.accepted.1 c.args.bytes.now in
@@ -51,16 +51,15 @@ returns-then-not-consistent c =
     refused_reply a.buffer.now a.saved a.allowance c.refused.result 21 r.0 r.1 r.2
     ∙ ap (search_reply a.saved a.buffer.now) (searched_21 e (take a.saved a.buffer.now) a.allowance
     (keeps_is e (take a.saved a.buffer.now) ∙ ap (keeps (rules e)) (sym c.saved_position-given.ensures.0)
-    ∙ sym (c.search_from-outcome.ensures.told (keeps (rules e)) (tested_keeps c.put_rows.ensures pre.accepted.0 a.t.count compiled.tabled.counts) (consistent_closed e) (empty_keeps e))
-    ∙ c.if-not-consistent.true))
+    ∙ c.in_default.ensures (keeps (rules e)) (tested_keeps c.put_rows.ensures pre.accepted.0 a.t.count compiled.tabled.counts) (consistent_closed e) (empty_keeps e)))
 
 pub write_position-requires : goal.write_position-requires
 write_position-requires c =
     let pre = c.requires in
     let compiled = pre.accepted.1 c.args.bytes.now in
     let a = c.args in (
-      omega (arith, c.search_from-outcome.ensures.bounded.short, compiled.tabled.counts, pre.accepted.0.operations_few),
-      (let z : c.search_from-outcome.result.position.length ≤ length a.buffer.now = omega (arith, c.search_from-outcome.ensures.bounded.short, pre.saved.1) in z),
+      omega (arith, c.in-Some.ensures.1.bounded.short, compiled.tabled.counts, pre.accepted.0.operations_few),
+      (let z : c.in-Some.outcome.position.length ≤ length a.buffer.now = omega (arith, c.in-Some.ensures.1.bounded.short, pre.saved.1) in z),
     )
 
 pub returns : goal.returns
@@ -70,12 +69,12 @@ returns c =
     let compiled = pre.accepted.1 c.args.bytes.now in
     let e = execution_of a.bytes.now a.x in
     let p = c.saved_position-given.ensures in
-    let d = c.search_from-outcome.ensures in
+    let d = c.in-Some.ensures.1 in
     let count = compiled.tabled.counts in
     let table = tested_keeps c.put_rows.ensures pre.accepted.0 a.t.count count in
-    let passes : keeps (rules e) (position_of c.saved_position-given.result) ≡ true = sym (d.told (keeps (rules e)) table (consistent_closed e) (empty_keeps e)) ∙ c.if-not-consistent.false in
-    outcome_reply e a.buffer.now _ a.saved a.allowance a.t.count count (position_of c.saved_position-given.result) p.0 c.search_from-outcome.result
+    let passes : keeps (rules e) (position_of c.saved_position-given.result) ≡ true = c.in-Some.ensures.0 (keeps (rules e)) table (consistent_closed e) (empty_keeps e) in
+    outcome_reply e a.buffer.now _ a.saved a.allowance a.t.count count (position_of c.saved_position-given.result) p.0 c.in-Some.outcome
     (d.comes (keeps (rules e)) table (consistent_closed e) passes)
     (omega (arith, d.bounded.short, d.bounded.whole, count, pre.accepted.0.operations_few)) c.write_position.ensures
-    (record { answer = c.answer_of.result; steps = c.search_from-outcome.result.steps; length = c.search_from-outcome.result.position.length }) c.answer_of.ensures refl refl
+    (record { answer = c.answer_of.result; steps = c.in-Some.outcome.steps; length = c.in-Some.outcome.position.length }) c.answer_of.ensures refl refl
     ∙ ap (search_reply a.saved a.buffer.now) (searched_from e (take a.saved a.buffer.now) a.allowance (keeps_is e (take a.saved a.buffer.now) ∙ ap (keeps (rules e)) (sym p.0) ∙ passes))

@@ -1,7 +1,7 @@
 -- Each turn makes one step; the walk of the last only sees whether anything is left.
 use Prim.Native.Nat.{ℕ}
 use native.Mathlib.Omega.{arith}
-use mathlib.Core.Path.{refl, sym, ap, ◌∙◌, subst}
+use mathlib.Core.Path.{sym, ap, ◌∙◌, subst}
 use mathlib.Core.Bool.{Bool, cond}
 use mathlib.Core.List.{List}
 use lib.ListN.{take}
@@ -21,17 +21,16 @@ loop-size-init c =
 pub keep_if-requires : goal.keep_if-requires
 keep_if-requires c = let l = c.loop-size in (l.invariant.0.whole, l.invariant.3)
 
-pub walk-next-requires : goal.walk-next-requires
-walk-next-requires c =
+pub walk-requires : goal.walk-requires
+walk-requires c =
     let inv = c.loop-size.invariant.0 in
     record { kept = (inv.few, inv.room, inv.kept, c.requires.kept.3); lengths = (inv.whole, inv.long, inv.wide) }
 
-pub returns-in-End : goal.returns-in-End
-returns-in-End c =
+pub returns-in_default : goal.returns-in_default
+returns-in_default c =
     let l = c.loop-size in
     record {
-      told = refl;
-      comes = going_ends l.invariant.0 c.walk-next.ensures c.in-End.is;
+      comes = going_ends l.invariant.0 c.walk.ensures c.in_default.is;
       bounded = record { short = l.invariant.1; whole = l.invariant.2 };
     }
 
@@ -41,9 +40,8 @@ returns-then-last c =
     let l = c.loop-size in
     let same = c.keep_if.ensures ∙ ap (λ (b : Bool). cond b l.entries l.reached) (eq-eqb _ _ c.if-last.true) in
     record {
-      told = refl;
       comes = subst (λ (entries : List ℕ). Comes g.n g.rows.now (position_of g.given) g.allowance (record { verdict = unfinished; steps = l.steps; position = take l.length entries })) (sym same)
-          (going_spent l.invariant.0 c.walk-next.ensures _ c.in-Next.is (omega (arith, c.if-last.true)));
+          (going_spent l.invariant.0 c.walk.ensures _ c.in-Some.is (omega (arith, c.if-last.true)));
       bounded = record { short = omega (arith, l.invariant.0.room); whole = ap ListN.length same ∙ l.invariant.0.whole };
     }
 
@@ -56,10 +54,9 @@ pub returns-then-length-n : goal.returns-then-length-n
 returns-then-length-n c =
     let g = c.args in
     let l = c.loop-size in
-    let walked = c.walk-next.ensures in
-    let found = c.in-Next.is in
+    let walked = c.walk.ensures in
+    let found = c.in-Some.is in
     record {
-      told = refl;
       comes = going_found l.invariant.0 walked _ found (omega (arith, l.invariant.0.allows, c.if-last.false)) c.if-length-n.true;
       bounded = record { short = omega (arith, c.if-length-n.true); whole = going_whole l.invariant.0 walked _ found };
     }
@@ -72,7 +69,7 @@ loop-size-smaller c =
 pub loop-size-preserved : goal.loop-size-preserved
 loop-size-preserved c =
     let l = c.loop-size in (
-      going_on l.invariant.0 c.walk-next.ensures _ c.in-Next.is (omega (arith, l.invariant.0.allows, c.if-last.false)) c.if-length-n.false,
+      going_on l.invariant.0 c.walk.ensures _ c.in-Some.is (omega (arith, l.invariant.0.allows, c.if-last.false)) c.if-length-n.false,
       l.invariant.1,
       l.invariant.2,
       ap ListN.length c.keep_if.ensures ∙ either_long (eqb l.steps c.args.allowance) l.entries l.reached l.invariant.0.whole l.invariant.3,
