@@ -8,7 +8,7 @@ use Rattle.std.specs.List.{list_any}
 use lib.ListN.{get_or}
 use borrow.Author.Tests.{ne_eqb}
 use Rattle.base.specs.Below.{any_below}
-use Rattle.base.proofs.Tests.{any_below_same}
+use Rattle.base.proofs.Tests.{any_passes, any_below_same}
 use Rattle.model.specs.Execution.{Role, RV}
 use Rattle.model.specs.Rules.{linked}
 use Rattle.model.specs.Accepted.{Consecutive}
@@ -26,6 +26,11 @@ use Rattle.relation_links.proofs.CompiledLaws.{operation_there, owner_there}
 use Rattle.relation_links.specs.Linked.{linked_by, linked_at}
 
 module _ (m p : ℕ) (a b : Role) where
+  -- a rule that links
+  pub rule_links : (rule : ℕ) → rule < 16 → link_by rule m p a b ≡ true → true ≡ linked_by m p a b
+  unfolding linked_by
+  rule_links rule l h = sym (any_passes (λ r. link_by r m p a b) 16 rule l h)
+
   -- rules without a link
   rule_0 : link_by 0 m p a b ≡ false
   unfolding link_by roles_link
@@ -115,11 +120,15 @@ module _ (m p q : ℕ) (b : Role) where
   remote_others : list_any (λ rule. link_by rule m p (RV q) b) (2 ∷ 5 ∷ 6 ∷ 7 ∷ 8 ∷ 13 ∷ 15 ∷ []) ≡ false
   remote_others = rw (remote_2, remote_5, remote_6, remote_7, remote_8, remote_13, remote_15) refl
 
-pub from_remote : (m p k : ℕ) (b : Role) → 3 ≤ k → list_any (λ rule. link_by rule m p (role_numbered k) b) (2 ∷ 5 ∷ 6 ∷ 7 ∷ 8 ∷ 13 ∷ 15 ∷ []) ≡ false
-from_remote m p zero b l = absurd (omega arith)
-from_remote m p (suc zero) b l = absurd (omega arith)
-from_remote m p (suc (suc zero)) b l = absurd (omega arith)
-from_remote m p (suc (suc (suc q))) b l = remote_others m p q b
+pub others_from_remote : (m p k : ℕ) (b : Role) → 3 ≤ k → list_any (λ rule. link_by rule m p (role_numbered k) b) (2 ∷ 5 ∷ 6 ∷ 7 ∷ 8 ∷ 13 ∷ 15 ∷ []) ≡ false
+others_from_remote m p zero b l = absurd (omega arith)
+others_from_remote m p (suc zero) b l = absurd (omega arith)
+others_from_remote m p (suc (suc zero)) b l = absurd (omega arith)
+others_from_remote m p (suc (suc (suc q))) b l = remote_others m p q b
+
+pub from_remote : (m p k : ℕ) (b : Role) → 3 ≤ k → link_by 1 m p (role_numbered k) b ≡ false → link_by 3 m p (role_numbered k) b ≡ false
+    → link_by 4 m p (role_numbered k) b ≡ false → false ≡ linked_by m p (role_numbered k) b
+from_remote m p k b l h1 h3 h4 = sym (rw (h1, h3, h4, others_from_remote m p k b l) refl) ∙ linked_is m p (role_numbered k) b
 
 -- the tables of an execution
 -- the tables' test of two operations is whether some rule links them

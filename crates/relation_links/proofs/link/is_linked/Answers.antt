@@ -3,7 +3,7 @@ use mathlib.Core.Path.{sym, ◌∙◌}
 use lib.Bits.{and_mask}
 use Rattle.std.proofs.Common.{rules}
 use Rattle.record_decoded.specs.Kinds.{role_numbered}
-use Rattle.relation_links.proofs.LinkedLaws.{linked_is, no_mark, from_remote}
+use Rattle.relation_links.proofs.LinkedLaws.{linked_is, no_mark, others_from_remote}
 use Rattle.relation_links.proofs.link.is_linked.Goals as goal
 
 pub returns-then-one_links : goal.returns-then-one_links
@@ -19,7 +19,7 @@ returns-then-a-lt-ROLE_RV c =
 pub returns-else-a-lt-ROLE_RV : goal.returns-else-a-lt-ROLE_RV
 returns-else-a-lt-ROLE_RV c =
     let law = linked_is c.args.marks c.args.processor (role_numbered c.args.a) (role_numbered c.args.b) in
-    let remote = from_remote c.args.marks c.args.processor c.args.a (role_numbered c.args.b) c.if-a-lt-ROLE_RV.false in
+    let remote = others_from_remote c.args.marks c.args.processor c.args.a (role_numbered c.args.b) c.if-a-lt-ROLE_RV.false in
     search rules
 
 pub returns-else-marks-ne0 : goal.returns-else-marks-ne0
