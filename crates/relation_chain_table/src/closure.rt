@@ -2,10 +2,9 @@
 ghost use Rattle.std.specs.Prelude.{◌≡◌, ◌||◌, ℕ, ◌<◌, ◌≤◌, get_or, eqb};
 ghost use Rattle.relation_chain_table.specs.Squares.{MarksAre, marked, via, closed_by};
 
-use crate::square::{is_marked, mark_of};
+use crate::square::is_marked;
 use record_decoded::position::Position;
 use record_decoded::types::OperationNo;
-use relation_marks::table::either;
 
 // The marks of two rows.
 fn joined_row(
@@ -17,13 +16,10 @@ fn joined_row(
     requires { (n ≤ 128) × (from.0 < 128) × (way.0 < 128) }
     ensures { (j : ℕ) → j < n → eqb (get_or result j 0) 1 ≡ (marked m.now from.0 j || marked m.now way.0 j) }
 {
-    let i = from.0;
-    let k = way.0;
     let mut row = [0u8; Position::LIMIT];
     for j in 0..n {
-        let own = is_marked(m, OperationNo(i), OperationNo(j));
-        let other = is_marked(m, OperationNo(k), OperationNo(j));
-        row[j] = mark_of(either(own, other));
+        let to = OperationNo(j);
+        row[j] = u8::from(is_marked(m, from, to) || is_marked(m, way, to));
     }
     row
 }
@@ -38,12 +34,10 @@ fn row_via(
     requires { (n ≤ 128) × (from.0 < 128) × (way.0 < 128) }
     ensures { (j : ℕ) → j < n → eqb (get_or result j 0) 1 ≡ via way.0 (marked m.now) from.0 j }
 {
-    let i = from.0;
-    let k = way.0;
-    if is_marked(m, OperationNo(i), OperationNo(k)) {
-        joined_row(m, n, OperationNo(i), OperationNo(k))
+    if is_marked(m, from, way) {
+        joined_row(m, n, from, way)
     } else {
-        m[i]
+        m[from.0]
     }
 }
 
@@ -56,10 +50,9 @@ fn rows_via(
     requires { (n ≤ 128) × (way.0 < n) }
     ensures { MarksAre n result (via way.0 (marked m.now)) }
 {
-    let k = way.0;
     let mut rows = [[0u8; Position::LIMIT]; Position::LIMIT];
     for i in 0..n {
-        rows[i] = row_via(m, n, OperationNo(i), OperationNo(k));
+        rows[i] = row_via(m, n, OperationNo(i), way);
     }
     rows
 }

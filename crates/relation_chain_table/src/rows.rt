@@ -3,7 +3,7 @@ ghost use Rattle.std.specs.Prelude.{◌≡◌, ◌++◌, ◌*◌, ◌<◌, ◌�
 ghost use Rattle.std.proofs.Math.Seq.{paste};
 ghost use Rattle.relation_chain_table.specs.Squares.{row_marks, square_marks};
 
-use crate::square::{is_marked, mark_of};
+use crate::square::is_marked;
 use record_decoded::position::Position;
 use record_decoded::types::OperationNo;
 
@@ -17,10 +17,9 @@ fn write_row(
     requires { (from.0 < n) × (n ≤ 128) × (n * n ≤ length table.old) }
     ensures { table.new ≡ paste table.old (from.0 * n) (row_marks m.now n from.0) n }
 {
-    let a = from.0;
-    let at = a * n;
+    let at = from.0 * n;
     for b in 0..n {
-        table[at + b] = mark_of(is_marked(m, OperationNo(a), OperationNo(b)));
+        table[at + b] = u8::from(is_marked(m, from, OperationNo(b)));
     }
 }
 

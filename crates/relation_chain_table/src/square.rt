@@ -1,19 +1,12 @@
 // The square of links: a 1 where some rule links the operation of the row to that of the column.
 ghost use Rattle.std.specs.Prelude.{◌≡◌, ℕ, ◌<◌, ◌≤◌, get_or, eqb};
 ghost use Rattle.relation_links.specs.Linked.{linked_at};
-ghost use Rattle.relation_chain_table.specs.Squares.{mark_of, marked, MarksAre};
+ghost use Rattle.relation_chain_table.specs.Squares.{marked, MarksAre};
 
 use record_decoded::position::Position;
 use record_decoded::types::{Instructions, MOST_INSTRUCTIONS, OperationNo, wide};
 use relation_links::link::is_linked;
 use relation_links::operations::Operations;
-
-// 1 for a test that holds, else 0.
-pub fn mark_of(holds: bool) -> u8
-    ensures { result ≡ mark_of holds }
-{
-    if holds { 1 } else { 0 }
-}
 
 // Whether the cell of a row and a column is 1.
 pub fn is_marked(
@@ -24,9 +17,7 @@ pub fn is_marked(
     requires { (from.0 < 128) × (to.0 < 128) }
     ensures { result ≡ marked m.now from.0 to.0 }
 {
-    let a = from.0;
-    let b = to.0;
-    m[a][b] == 1
+    m[from.0][to.0] == 1
 }
 
 // The links from an operation.
@@ -39,19 +30,13 @@ fn links_row(
     requires { (from.0 < t.count) × (t.count ≤ 128) × ((o : ℕ) → o < t.count → get_or t.owners o 0 < 40) }
     ensures { (b : ℕ) → b < t.count → eqb (get_or result b 0) 1 ≡ linked_at is t marks.now from.0 b }
 {
-    let a = from.0;
-    let n = t.count;
-    let owners = t.owners;
-    let roles = t.roles;
-    let processors = is.processors;
-    let first = wide(owners[a]);
-    let processor = processors[first];
-    let role = roles[a];
+    let first = wide(t.owners[from.0]);
+    let processor = is.processors[first];
+    let role = t.roles[from.0];
     let mut row = [0u8; Position::LIMIT];
-    for b in 0..n {
-        let second = wide(owners[b]);
-        let between = marks[first][second];
-        row[b] = mark_of(is_linked(between, processor, role, roles[b]));
+    for b in 0..t.count {
+        let between = marks[first][wide(t.owners[b])];
+        row[b] = u8::from(is_linked(between, processor, role, t.roles[b]));
     }
     row
 }
@@ -65,9 +50,8 @@ pub fn links_square(
     requires { (t.count ≤ 128) × ((o : ℕ) → o < t.count → get_or t.owners o 0 < 40) }
     ensures { MarksAre t.count result (linked_at is t marks.now) }
 {
-    let n = t.count;
     let mut square = [[0u8; Position::LIMIT]; Position::LIMIT];
-    for a in 0..n {
+    for a in 0..t.count {
         square[a] = links_row(is, t, marks, OperationNo(a));
     }
     square

@@ -2,8 +2,9 @@
 use Prim.Native.Nat.{ℕ, zero, suc, ◌/◌, ◌%◌, ◌≤◌, ◌<◌}
 use native.Mathlib.Omega.{arith}
 use mathlib.Core.Path.{◌≡◌, refl, sym, ap, ◌∙◌}
-use mathlib.Core.Bool.{true, false, and-false}
-use mathlib.Core.List.{List}
+use mathlib.Core.Bool.{Bool, true, false, ◌||◌, and-false, or-true}
+use mathlib.Core.List.{List, [], ◌∷◌}
+use Rattle.std.specs.List.{list_any}
 use lib.ListN.{get_or}
 use borrow.Author.Tests.{ne_eqb}
 use Rattle.base.specs.Below.{any_below}
@@ -55,12 +56,23 @@ module _ (m p : ℕ) (a b : Role) where
   unfolding link_by roles_link
   rule_14 = and-false (has_mark m (rule_mark 14))
 
-  -- where rules 1 to 8 and 13 do not link, rule 15 decides
-  pub last_rule : link_by 1 m p a b ≡ false → link_by 2 m p a b ≡ false → link_by 3 m p a b ≡ false → link_by 4 m p a b ≡ false
-      → link_by 5 m p a b ≡ false → link_by 6 m p a b ≡ false → link_by 7 m p a b ≡ false → link_by 8 m p a b ≡ false → link_by 13 m p a b ≡ false
-      → link_by 15 m p a b ≡ linked_by m p a b
+  -- some rule links where one of those from any operation does, or one of the others
+  pub linked_is : (list_any (λ rule. link_by rule m p a b) (1 ∷ 3 ∷ 4 ∷ []) || list_any (λ rule. link_by rule m p a b) (2 ∷ 5 ∷ 6 ∷ 7 ∷ 8 ∷ 13 ∷ 15 ∷ [])) ≡ linked_by m p a b
   unfolding linked_by any_below
-  last_rule h1 h2 h3 h4 h5 h6 h7 h8 h13 = sym (rw (rule_0, h1, h2, h3, h4, h5, h6, h7, h8, rule_9, rule_10, rule_11, rule_12, h13, rule_14) refl)
+  linked_is = rw (rule_0, rule_9, rule_10, rule_11, rule_12, rule_14) (sorted (link_by 1 m p a b) (link_by 3 m p a b) (link_by 4 m p a b) (link_by 2 m p a b) (link_by 5 m p a b) (link_by 6 m p a b) (link_by 7 m p a b) (link_by 8 m p a b) (link_by 13 m p a b) (link_by 15 m p a b))
+    where
+      sorted : (r1 r3 r4 r2 r5 r6 r7 r8 r13 r15 : Bool) → ((r1 || (r3 || (r4 || false))) || (r2 || (r5 || (r6 || (r7 || (r8 || (r13 || (r15 || false)))))))) ≡ ((((((((((((((((false || false) || r1) || r2) || r3) || r4) || r5) || r6) || r7) || r8) || false) || false) || false) || false) || r13) || false) || r15)
+      sorted true r3 r4 r2 r5 r6 r7 r8 r13 r15 = refl
+      sorted false true r4 r2 r5 r6 r7 r8 r13 r15 = simp or-true
+      sorted false false true r2 r5 r6 r7 r8 r13 r15 = simp or-true
+      sorted false false false true r5 r6 r7 r8 r13 r15 = refl
+      sorted false false false false true r6 r7 r8 r13 r15 = refl
+      sorted false false false false false true r7 r8 r13 r15 = refl
+      sorted false false false false false false true r8 r13 r15 = refl
+      sorted false false false false false false false true r13 r15 = refl
+      sorted false false false false false false false false true r15 = refl
+      sorted false false false false false false false false false true = refl
+      sorted false false false false false false false false false false = refl
 
   -- without a mark below 128 no rule links
   pub no_mark : m % 128 ≡ 0 → false ≡ linked_by m p a b
@@ -105,14 +117,18 @@ module _ (m p q : ℕ) (b : Role) where
   unfolding link_by roles_link
   remote_15 = and-false (has_mark m (rule_mark 15))
 
+  remote_others : list_any (λ rule. link_by rule m p (RV q) b) (2 ∷ 5 ∷ 6 ∷ 7 ∷ 8 ∷ 13 ∷ 15 ∷ []) ≡ false
+  remote_others = rw (remote_2, remote_5, remote_6, remote_7, remote_8, remote_13, remote_15) refl
+
+pub others_from_remote : (m p k : ℕ) (b : Role) → 3 ≤ k → list_any (λ rule. link_by rule m p (role_numbered k) b) (2 ∷ 5 ∷ 6 ∷ 7 ∷ 8 ∷ 13 ∷ 15 ∷ []) ≡ false
+others_from_remote m p zero b l = absurd (omega arith)
+others_from_remote m p (suc zero) b l = absurd (omega arith)
+others_from_remote m p (suc (suc zero)) b l = absurd (omega arith)
+others_from_remote m p (suc (suc (suc q))) b l = remote_others m p q b
+
 pub from_remote : (m p k : ℕ) (b : Role) → 3 ≤ k → link_by 1 m p (role_numbered k) b ≡ false → link_by 3 m p (role_numbered k) b ≡ false
     → link_by 4 m p (role_numbered k) b ≡ false → false ≡ linked_by m p (role_numbered k) b
-from_remote m p zero b l h1 h3 h4 = absurd (omega arith)
-from_remote m p (suc zero) b l h1 h3 h4 = absurd (omega arith)
-from_remote m p (suc (suc zero)) b l h1 h3 h4 = absurd (omega arith)
-from_remote m p (suc (suc (suc q))) b l h1 h3 h4 =
-    sym (remote_15 m p q b)
-    ∙ last_rule m p (RV q) b h1 (remote_2 m p q b) h3 h4 (remote_5 m p q b) (remote_6 m p q b) (remote_7 m p q b) (remote_8 m p q b) (remote_13 m p q b)
+from_remote m p k b l h1 h3 h4 = sym (rw (h1, h3, h4, others_from_remote m p k b l) refl) ∙ linked_is m p (role_numbered k) b
 
 -- the tables of an execution
 -- the tables' test of two operations is whether some rule links them

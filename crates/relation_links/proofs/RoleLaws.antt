@@ -1,5 +1,5 @@
 -- Roles by their numbers, and what each rule asks of them.
-use Prim.Native.Nat.{ℕ, zero, suc, ◌+◌, ◌-◌, ◌<◌, ◌≤◌}
+use Prim.Native.Nat.{ℕ, zero, suc, ◌-◌, ◌<◌, ◌≤◌}
 use native.Mathlib.Omega.{arith}
 use native.Mathlib.Decide.{dec_lt}
 use mathlib.Core.Path.{◌≡◌, refl, sym, ap, ◌∙◌}
@@ -67,13 +67,6 @@ pub roles_past : (rule m p : ℕ) (a b : Role) → 16 ≤ rule → false ≡ rol
 unfolding roles_link
 roles_past rule m p a b h = rw get_or-eq_default
 
--- past three and past four numbers, one after the other
-pub past_three : (n k : ℕ) → k < n → (n ≡ k + 1 → ⊥) → (n ≡ k + 2 → ⊥) → (n ≡ k + 3 → ⊥) → k + 3 < n
-past_three n k h a b c = omega arith
-
-pub past_four : (n k : ℕ) → k < n → (n ≡ k + 1 → ⊥) → (n ≡ k + 2 → ⊥) → (n ≡ k + 3 → ⊥) → (n ≡ k + 4 → ⊥) → k + 4 < n
-past_four n k h a b c d = omega arith
-
 -- the other rules ask for no roles: there is no link
 pub roles_none : (rule m p : ℕ) (a b : Role) → (0 < rule → 8 < rule) → (rule ≡ 13 → ⊥) → (rule ≡ 15 → ⊥) → false ≡ roles_link rule m p a b
 unfolding roles_link
@@ -91,6 +84,16 @@ roles_none rule m p a b h n l = go (dec_lt rule 1) (dec_lt rule 10) (dec_lt rule
 -- the mark of a rule, at the rule
 pub mark_at_lem : (k rule : ℕ) → rule ≡ k → rule_mark k ≡ rule_mark rule
 mark_at_lem k rule e = ap rule_mark (sym e)
+
+-- the rules of overlapping accesses ask for one mark
+pub mark_overlap : (rule : ℕ) → 5 ≤ rule → rule ≤ 7 → 16 ≡ rule_mark rule
+unfolding rule_mark
+mark_overlap rule l h = go (dec_lt rule 6) (dec_lt rule 7)
+  where
+    go : Dec (rule < 6) → Dec (rule < 7) → 16 ≡ rule_mark rule
+    go (yes a) b = mark_at_lem 5 rule (omega arith)
+    go (no a) (yes b) = mark_at_lem 6 rule (omega arith)
+    go (no a) (no b) = mark_at_lem 7 rule (omega arith)
 
 -- the other rules ask for mark 1
 pub mark_none : (rule : ℕ) → (1 < rule → 8 < rule) → (rule ≡ 13 → ⊥) → 1 ≡ rule_mark rule

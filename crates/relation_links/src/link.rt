@@ -1,5 +1,6 @@
 // The link of a rule between two operations, by the marks of their instructions and their roles.
 ghost use Rattle.std.specs.Prelude.{◌≡◌, not, ◌||◌, ◌<◌, eqb};
+ghost use Rattle.std.specs.List.{list_any};
 ghost use Rattle.model.specs.Execution.{has_role_R, has_role_LV, has_role_RV};
 ghost use Rattle.model.specs.Rules.{same_visibility};
 ghost use Rattle.record_decoded.specs.Kinds.{role_numbered};
@@ -9,7 +10,7 @@ ghost use Rattle.relation_links.specs.Linked.{linked_by};
 use record_decoded::kind::{ROLE_LV, ROLE_R, ROLE_RV};
 use relation_marks::table::{
     ACQUIRE, DOMAIN, FENCE, FIRST_SEMAPHORE, LINK_MARKS, OVERLAP, PAIR, RELEASE, SAME,
-    SECOND_SEMAPHORE, both, either, has_mark,
+    SECOND_SEMAPHORE, has_mark,
 };
 
 // R.
@@ -30,29 +31,21 @@ fn is_lv(role: u8) -> bool
 fn is_access(role: u8) -> bool
     ensures { result ≡ (has_role_R (role_numbered role) || has_role_LV (role_numbered role)) }
 {
-    either(is_r(role), is_lv(role))
+    is_r(role) || is_lv(role)
 }
 
 // RV to the processor.
 fn is_rv_to(role: u8, processor: u8) -> bool
     ensures { result ≡ has_role_RV (role_numbered role) (λ q. eqb q processor) }
 {
-    if role < ROLE_RV {
-        false
-    } else {
-        role - ROLE_RV == processor
-    }
+    role >= ROLE_RV && role - ROLE_RV == processor
 }
 
 // RV to another processor.
 fn is_rv_to_other(role: u8, processor: u8) -> bool
     ensures { result ≡ has_role_RV (role_numbered role) (λ q. not (eqb q processor)) }
 {
-    if role < ROLE_RV {
-        false
-    } else {
-        role - ROLE_RV != processor
-    }
+    role >= ROLE_RV && role - ROLE_RV != processor
 }
 
 // LV and LV, or RV to one processor.
@@ -60,7 +53,7 @@ fn is_same_visibility(a: u8, b: u8) -> bool
     ensures { result ≡ same_visibility (role_numbered a) (role_numbered b) }
 {
     if a < ROLE_RV {
-        both(is_lv(a), is_lv(b))
+        is_lv(a) && is_lv(b)
     } else {
         a == b
     }
@@ -74,9 +67,7 @@ pub fn rule_mark(rule: u8) -> u16
         2 => ACQUIRE,
         3 => RELEASE,
         4 => FENCE,
-        5 => OVERLAP,
-        6 => OVERLAP,
-        7 => OVERLAP,
+        5..=7 => OVERLAP,
         8 => PAIR,
         13 => DOMAIN,
         _ => SAME,
@@ -87,7 +78,7 @@ pub fn rule_mark(rule: u8) -> u16
 fn is_end(semaphore: bool, role: u8) -> bool
     ensures { result ≡ end_role semaphore (role_numbered role) }
 {
-    either(is_r(role), both(is_lv(role), !semaphore))
+    is_r(role) || is_lv(role) && !semaphore
 }
 
 // What a rule asks of the roles of two operations, the first of `processor`, by the marks of their instructions.
@@ -95,22 +86,22 @@ pub fn roles_link(rule: u8, marks: u16, processor: u8, a: u8, b: u8) -> bool
     ensures { result ≡ roles_link rule marks processor (role_numbered a) (role_numbered b) }
 {
     match rule {
-        1 => either(
-            both(is_lv(a), is_rv_to(b, processor)),
-            both(is_rv_to(a, processor), is_rv_to_other(b, processor)),
-        ),
+        1 => {
+            let from_local = is_lv(a) && is_rv_to(b, processor);
+            from_local || is_rv_to(a, processor) && is_rv_to_other(b, processor)
+        }
         2 => is_r(a),
-        3 => either(is_r(a), is_same_visibility(a, b)),
+        3 => is_r(a) || is_same_visibility(a, b),
         4 => true,
-        5 => both(is_lv(a), is_r(b)),
-        6 => both(is_r(a), is_lv(b)),
-        7 => both(is_lv(a), is_lv(b)),
-        8 => both(
-            is_end(has_mark(marks, FIRST_SEMAPHORE), a),
-            is_end(has_mark(marks, SECOND_SEMAPHORE), b),
-        ),
-        13 => both(is_access(a), is_access(b)),
-        15 => both(is_r(a), is_lv(b)),
+        5 => is_lv(a) && is_r(b),
+        6 => is_r(a) && is_lv(b),
+        7 => is_lv(a) && is_lv(b),
+        8 => {
+            is_end(has_mark(marks, FIRST_SEMAPHORE), a)
+                && is_end(has_mark(marks, SECOND_SEMAPHORE), b)
+        }
+        13 => is_access(a) && is_access(b),
+        15 => is_r(a) && is_lv(b),
         _ => false,
     }
 }
@@ -119,49 +110,26 @@ pub fn roles_link(rule: u8, marks: u16, processor: u8, a: u8, b: u8) -> bool
 pub fn link(rule: u8, marks: u16, processor: u8, a: u8, b: u8) -> bool
     ensures { result ≡ link_by rule marks processor (role_numbered a) (role_numbered b) }
 {
-    if has_mark(marks, rule_mark(rule)) {
-        roles_link(rule, marks, processor, a, b)
-    } else {
-        false
-    }
+    has_mark(marks, rule_mark(rule)) && roles_link(rule, marks, processor, a, b)
 }
 
-// Whether some rule links two operations, the first of `processor`. From an RV only rules 1, 3 and 4 link.
+// The rules that link from any operation, and those that do not link from an RV.
+const RULES_FROM_ANY: [u8; 3] = [1, 3, 4];
+
+const OTHER_RULES: [u8; 7] = [2, 5, 6, 7, 8, 13, 15];
+
+// Whether one of these rules links two operations.
+fn one_links(rules: &[u8], marks: u16, processor: u8, a: u8, b: u8) -> bool
+    ensures { result ≡ list_any (λ rule. link_by rule marks processor (role_numbered a) (role_numbered b)) rules.now }
+{
+    rules.iter().any(|&rule| link(rule, marks, processor, a, b))
+}
+
+// Whether some rule links two operations, the first of `processor`.
 pub fn is_linked(marks: u16, processor: u8, a: u8, b: u8) -> bool
     ensures { result ≡ linked_by marks processor (role_numbered a) (role_numbered b) }
 {
-    if marks & LINK_MARKS == 0 {
-        return false;
-    }
-    if link(1, marks, processor, a, b) {
-        return true;
-    }
-    if link(3, marks, processor, a, b) {
-        return true;
-    }
-    if link(4, marks, processor, a, b) {
-        return true;
-    }
-    if a >= ROLE_RV {
-        return false;
-    }
-    if link(2, marks, processor, a, b) {
-        return true;
-    }
-    if link(5, marks, processor, a, b) {
-        return true;
-    }
-    if link(6, marks, processor, a, b) {
-        return true;
-    }
-    if link(7, marks, processor, a, b) {
-        return true;
-    }
-    if link(8, marks, processor, a, b) {
-        return true;
-    }
-    if link(13, marks, processor, a, b) {
-        return true;
-    }
-    link(15, marks, processor, a, b)
+    marks & LINK_MARKS != 0
+        && (one_links(&RULES_FROM_ANY, marks, processor, a, b)
+            || a < ROLE_RV && one_links(&OTHER_RULES, marks, processor, a, b))
 }

@@ -29,20 +29,17 @@ fn with_operations(
     ensures { Tabled is result (table_of is t ++ operations_of processors (instruction_at is instruction.0)) (t.count + length (roles processors (kind_of (get_or is.kinds instruction.0 0)))) }
 {
     let number = instruction.0;
-    let kinds = is.kinds;
-    let kind = kind_of(kinds[number]);
+    let kind = kind_of(is.kinds[number]);
     let n = operation_count(kind, processors);
-    let start = t.count;
     let mut owners = t.owners;
     let mut roles = t.roles;
     for place in 0..n {
-        let o = start + place;
+        let o = t.count + place;
         owners[o] = number as u8;
         roles[o] = role_of(kind, place as u8);
     }
-    let count = start + n;
     Operations {
-        count,
+        count: t.count + n,
         owners,
         roles,
     }
@@ -54,13 +51,12 @@ pub fn operations_of(is: Instructions, processors: usize) -> Operations
     requires consecutive { Consecutive processors 0 0 (instructions_of is) }
     ensures { Tabled is result (for (instructions_of is) (operations_of processors)) (operation_count processors (instructions_of is)) }
 {
-    let n = is.count;
     let mut table = Operations {
         count: 0,
         owners: [0u8; Position::LIMIT],
         roles: [0u8; Position::LIMIT],
     };
-    for i in 0..n {
+    for i in 0..is.count {
         table = with_operations(table, is, InstructionNo(i), processors);
     }
     table

@@ -1,26 +1,26 @@
 -- Laws of the marks of two instructions.
-use Prim.Native.Nat.{ℕ, zero, suc, ◌+◌, ◌-◌, ◌*◌, min, max}
+use Prim.Native.Nat.{ℕ, zero, suc, ◌+◌, ◌-◌, ◌≤◌, min, max}
 use native.Mathlib.Omega.{arith}
+use native.Mathlib.Numerals.{add-one}
+use Rattle.std.specs.List.{list_any, range_with_len}
+use Rattle.std.proofs.lemmas.Bool.Decides.{nat_tests}
 use mathlib.Core.Path.{◌≡◌, refl, sym, ap, ap₂, ◌∙◌}
-use mathlib.Core.Bool.{Bool, false, cond, ◌&&◌}
-use mathlib.Core.List.{List, [], ◌∷◌}
+use mathlib.Core.Bool.{Bool, false, ◌&&◌, ◌||◌}
+use mathlib.Core.List.{List, [], ◌∷◌, map}
 use lib.ListN.{length, get_or}
 use lib.Dec.{eqb, leb, ltb}
 use borrow.Author.Tests.{lt-ltb, leb-true, leb-false, ltb-true, ltb-false, eqb-true}
-use Rattle.base.specs.Lists.{all, keep, count, member}
+use Rattle.base.specs.Lists.{all, any, keep, count, below, member}
 use Rattle.base.specs.Bits.{packed, packed_on}
 use Rattle.base.proofs.Bools.{split, agree}
-use Rattle.base.proofs.Bits.{bit_packed}
 use Rattle.base.proofs.Lists.{all_member, length_count}
-use Rattle.base.specs.Below.{any_below}
-use Rattle.base.proofs.Tests.{any_numbered}
 use Rattle.model.specs.Execution.{Kind, Instruction, kind_row}
 use Rattle.model.specs.ProgramOrder.{rule_marks, marks}
 use Rattle.model.proofs.ProgramOrder.{kinds, listed}
 use Rattle.model.specs.Rules.{addresses, accesses, shared_bytes, overlap}
 use Rattle.record_decoded.specs.declared.types.Pairs.{Pairs}
 use Rattle.record_decoded.specs.Decoded.{pair_at, pairs_of}
-use Rattle.relation_marks.specs.Marks.{program_marks, shared_by, given_pair, has_mark}
+use Rattle.relation_marks.specs.Marks.{program_marks, shared_by, given_pair}
 
 -- the numbers of an interval that lie in another are those from the later start to the earlier end
 pub shared_are : (address size other extent : ℕ)
@@ -85,28 +85,24 @@ pub program_order_lem : (j k : Kind) → get_or (get_or program_order (kind_row 
 unfolding right all program_marks marks rule_marks member packed packed_on
 program_order_lem j k = eqb-true _ _ (all_member (right j) (listed k) (all_member (λ j. all (right j) kinds) (listed j) refl))
 
+-- it has three marks and no other
+pub program_marks_few : (j k : Kind) → program_marks j k ≤ 14
+unfolding program_marks packed packed_on
+program_marks_few j k = few (member (marks j k) 2) (member (marks j k) 3) (member (marks j k) 4)
+  where
+    few : (b c d : Bool) → packed (false ∷ b ∷ c ∷ d ∷ []) ≤ 14
+    few b c d = grind (arith, nat_tests)
+
 -- a pair is given when some entry of the arrays is it
-pub pair_by_index : (ps : Pairs) (m n : ℕ) → any_below ps.count (λ k. eqb (get_or ps.earlier k 0) m && eqb (get_or ps.later k 0) n) ≡ given_pair (pairs_of ps) m n
-unfolding given_pair pairs_of pair_at
-pair_by_index ps m n = sym (any_numbered (λ p. eqb p.0 m && eqb p.1 n) (pair_at ps) ps.count)
+module _ (ps : Pairs) (m n : ℕ) where
+  abbrev pub is_given_at : ℕ → Bool
+  is_given_at k = eqb (get_or ps.earlier k 0) m && eqb (get_or ps.later k 0) n
 
--- the marks of rules 2, 3 and 4, read back
-module _ (j k : Kind) where
-  abbrev program_bits : List Bool
-  program_bits = false ∷ member (marks j k) 2 ∷ member (marks j k) 3 ∷ member (marks j k) 4 ∷ []
+  entries : (from few : ℕ) → list_any is_given_at (range_with_len from few) ≡ any (λ p. eqb p.0 m && eqb p.1 n) (map (pair_at ps) (count from few))
+  unfolding any count pair_at
+  entries from zero = refl
+  entries from (suc few) = ap (λ (t : Bool). is_given_at from || t) (ap (λ (a : ℕ). list_any is_given_at (range_with_len a few)) (add-one from) ∙ entries (suc from) few)
 
-  pub acquire_mark : has_mark (program_marks j k) 2 ≡ member (marks j k) 2
-  unfolding program_marks
-  acquire_mark = bit_packed program_bits 1
-
-  pub release_mark : has_mark (program_marks j k) 4 ≡ member (marks j k) 3
-  unfolding program_marks
-  release_mark = bit_packed program_bits 2
-
-  pub fence_mark : has_mark (program_marks j k) 8 ≡ member (marks j k) 4
-  unfolding program_marks
-  fence_mark = bit_packed program_bits 3
-
--- one mark more, by equal parts
-pub mark_more : {r m n : ℕ} {b d : Bool} → r ≡ cond b 1 0 + 2 * m → b ≡ d → m ≡ n → r ≡ cond d 1 0 + 2 * n
-mark_more {r} {m} {n} {b} {d} e f g = e ∙ ap₂ (λ (t : Bool) (k : ℕ). cond t 1 0 + 2 * k) f g
+  pub pair_by_index : list_any is_given_at (range_with_len 0 ps.count) ≡ given_pair (pairs_of ps) m n
+  unfolding given_pair pairs_of below
+  pair_by_index = entries 0 ps.count

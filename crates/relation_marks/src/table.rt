@@ -1,11 +1,12 @@
 // Marks of two instructions, packed into one number; the table of the program-order rules.
-ghost use Rattle.std.specs.Prelude.{◌≡◌, cond, ◌&&◌, ◌||◌, ◌+◌, ◌-◌, ◌*◌, ◌<◌, ◌≤◌, min, max, length, ltb};
+ghost use Rattle.std.specs.Prelude.{◌≡◌, ◌-◌, ◌<◌, ◌≤◌, length, ltb};
 ghost use Rattle.base.specs.Lists.{count};
 ghost use Rattle.record_decoded.specs.Kinds.{meant};
 ghost use Rattle.relation_marks.specs.Marks.{program_marks, shared_by, has_mark};
 
 use record_decoded::kind::{Kind, table_column, table_row};
 use record_decoded::types::wide;
+use std::ops::Range;
 
 // The marks: one instruction; rules 2, 3 and 4 by the kinds; a shared byte; a dependence pair; UC memory of one domain; conflicting stores; a UC store and an
 // overlapping load of its processor; one release to WB; a semaphore and another overlapping store; the first is a semaphore; the second is one.
@@ -57,45 +58,20 @@ const PROGRAM_ORDER: [[u16; 5]; 5] = [
 
 // The marks of rules 2, 3 and 4 for an earlier and a later kind.
 pub fn program_marks(earlier: Kind, later: Kind) -> u16
-    ensures { result ≡ program_marks (meant earlier) (meant later) }
+    ensures { (result ≡ program_marks (meant earlier) (meant later)) × (result ≤ 14) }
 {
     let row = table_row(earlier);
     let column = table_column(later);
     PROGRAM_ORDER[row][column]
 }
 
-fn larger(a: usize, b: usize) -> usize
-    ensures { result ≡ max a b }
+// The bytes that two accesses share, by their addresses, each access by its address and size: none where the end is not above the start.
+fn shared_bytes(address: u8, size: u8, other: u8, extent: u8) -> Range<usize>
+    ensures { shared_by address size other extent ≡ count result.start (result.end - result.start) }
 {
-    if a < b { b } else { a }
-}
-
-fn smaller(a: usize, b: usize) -> usize
-    ensures { result ≡ min a b }
-{
-    if a < b { a } else { b }
-}
-
-// The bytes that two accesses share, by their addresses: those from `from` to before `end`, so none where `end` is not above `from`.
-#[derive(Clone, Copy)]
-pub struct SharedBytes {
-    pub from: usize,
-    pub end: usize,
-}
-
-// The bytes that two accesses share, each by its address and size.
-fn shared_bytes(address: u8, size: u8, other: u8, extent: u8) -> SharedBytes
-    ensures { shared_by address size other extent ≡ count result.from (result.end - result.from) }
-{
-    let a = wide(address);
-    let s = wide(size);
-    let o = wide(other);
-    let e = wide(extent);
-    let own_end = a + s;
-    let other_end = o + e;
-    let from = larger(a, o);
-    let end = smaller(own_end, other_end);
-    SharedBytes { from, end }
+    let start = address.max(other);
+    let end = (wide(address) + wide(size)).min(wide(other) + wide(extent));
+    wide(start)..end
 }
 
 // Whether two accesses overlap: whether they share a byte.
@@ -103,27 +79,7 @@ pub fn overlaps(address: u8, size: u8, other: u8, extent: u8) -> bool
     ensures { result ≡ ltb 0 (length (shared_by address size other extent)) }
 {
     let shared = shared_bytes(address, size, other, extent);
-    shared.from < shared.end
-}
-
-pub fn both(a: bool, b: bool) -> bool
-    ensures { result ≡ (a && b) }
-{
-    if a { b } else { false }
-}
-
-pub fn either(a: bool, b: bool) -> bool
-    ensures { result ≡ (a || b) }
-{
-    if a { true } else { b }
-}
-
-// One mark more, below the others.
-pub fn with_mark(marks: u16, holds: bool) -> u16
-    requires { marks < 32768 }
-    ensures { (result ≡ cond holds 1 0 + 2 * marks) × (result ≤ 1 + 2 * marks) }
-{
-    if holds { 1 + 2 * marks } else { 2 * marks }
+    shared.start < shared.end
 }
 
 // Whether a mark is among those packed.

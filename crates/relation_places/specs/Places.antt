@@ -1,7 +1,6 @@
 -- The place of each operation in an order, and the table that holds them.
-use Rattle.std.specs.Prelude.{ℕ, suc, ◌≤◌, ◌≡◌, Bool, true, cond, List, [], ◌∷◌, length, get_or, eqb, ltb}
+use Rattle.std.specs.Prelude.{ℕ, suc, ◌≤◌, ◌≡◌, Bool, true, false, cond, List, [], ◌∷◌, length, get_or, eqb, ltb, Option, Some, None}
 use Rattle.base.specs.Lists.{distinct}
-use Rattle.relation_places.specs.declared.Placing.{Placing}
 
 -- the place of what does not stand, after all others
 abbrev pub no_place : ℕ
@@ -26,8 +25,7 @@ pub record Placed (n : ℕ) (xs places : List ℕ) : Type 0 where
   pub different : distinct n [] xs ≡ true
   pub stands : (o : ℕ) → placed places o ≡ place_from 0 xs o
 
--- what placing the operations of an order, of n, comes to
-pub record Placement (n : ℕ) (xs : List ℕ) (r : Placing) : Type 0 where
-  pub told : r.distinct ≡ distinct n [] xs
-  pub long : length r.places ≡ 128
-  pub places : r.distinct ≡ true → Placed n xs r.places
+-- what placing the operations of an order, of n, comes to: their places, where they are different operations below n
+abbrev pub Placement : ℕ → List ℕ → Option (List ℕ) → Type 0
+Placement n xs None = distinct n [] xs ≡ false
+Placement n xs (Some places) = (length places ≡ 128) × Placed n xs places

@@ -10,14 +10,8 @@ use record_decoded::types::{OperationNo, wide};
 // The place of an operation that does not stand.
 pub const ABSENT: u8 = 255;
 
-// Whether the entries are different operations below `n`, and if so the place of each.
-#[derive(Clone, Copy)]
-pub struct Placing {
-    pub distinct: bool,
-    pub places: [u8; Position::LIMIT],
-}
-
 // The place of an operation.
+#[tactic(auto, unfolding(crate::specs::Places::placed))]
 pub fn place_of(places: &[u8; Position::LIMIT], operation: OperationNo) -> u8
     ensures { result ≡ placed places.now operation.0 }
 {
@@ -36,30 +30,18 @@ pub fn before(places: &[u8; Position::LIMIT], a: OperationNo, b: OperationNo) ->
     place_of(places, a) < place_of(places, b)
 }
 
-// The places of an order's operations, of n.
-pub fn place_all(order: &[u8], n: usize) -> Placing
+// The places of an order's operations, of n; none where two entries are the same, or one is no operation.
+pub fn place_all(order: &[u8], n: usize) -> Option<[u8; Position::LIMIT]>
     requires { n ≤ 128 }
     ensures { Placement n order.now result }
 {
     let mut places = [ABSENT; Position::LIMIT];
-    for k in 0..order.len() {
-        let o = wide(order[k]);
-        if o >= n {
-            return Placing {
-                distinct: false,
-                places,
-            };
-        }
-        if places[o] != ABSENT {
-            return Placing {
-                distinct: false,
-                places,
-            };
+    for (k, &entry) in order.iter().enumerate() {
+        let o = wide(entry);
+        if o >= n || places[o] != ABSENT {
+            return None;
         }
         places[o] = k as u8;
     }
-    Placing {
-        distinct: true,
-        places,
-    }
+    Some(places)
 }

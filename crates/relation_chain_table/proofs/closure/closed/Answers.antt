@@ -1,13 +1,9 @@
 -- Each turn closes the square by way of one operation more.
 use Rattle.relation_chain_table.proofs.SquareLaws.{closing_none, closing_more, closing_all}
-use native.Mathlib.Omega.{arith}
 use Rattle.relation_chain_table.proofs.closure.closed.Goals as goal
 
 pub loop-k-init : goal.loop-k-init
 loop-k-init c = closing_none
-
-pub loop-k-smaller : goal.loop-k-smaller
-loop-k-smaller c = omega arith
 
 pub loop-k-preserved : goal.loop-k-preserved
 loop-k-preserved c = closing_more c.loop-k.invariant c.loop-k-test.true c.rows_via-square.ensures

@@ -1,5 +1,4 @@
 -- Each turn enters the mark of one column more.
-use Prim.Native.Nat.{◌≤◌}
 use mathlib.Core.Path.{◌≡◌}
 use mathlib.Core.Bool.{◌||◌}
 use lib.Dec.{eqb}
@@ -8,4 +7,4 @@ use Rattle.relation_chain_table.specs.Squares.{marked}
 use Rattle.relation_chain_table.proofs.closure.joined_row.Given as goal
 
 abbrev pub invariant-loop-j : goal.invariant-loop-j
-invariant-loop-j l = (l.j ≤ l.n) × Entered 128 0 (λ b x. eqb x 1 ≡ (marked l.m l.i b || marked l.m l.k b)) l.j l.row
+invariant-loop-j l = Entered 128 0 (λ b x. eqb x 1 ≡ (marked l.m l.from.0 b || marked l.m l.way.0 b)) l.j l.row

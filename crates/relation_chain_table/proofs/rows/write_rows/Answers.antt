@@ -1,13 +1,9 @@
 -- Each turn writes one row more.
 use Rattle.relation_chain_table.proofs.RowLaws.{written_none, written_more, written_all}
-use native.Mathlib.Omega.{arith}
 use Rattle.relation_chain_table.proofs.rows.write_rows.Goals as goal
 
 pub loop-a-init : goal.loop-a-init
 loop-a-init c = written_none
-
-pub loop-a-smaller : goal.loop-a-smaller
-loop-a-smaller c = omega arith
 
 pub loop-a-preserved : goal.loop-a-preserved
 loop-a-preserved c = written_more c.loop-a.invariant c.loop-a-test.true c.requires.1 c.write_row.ensures

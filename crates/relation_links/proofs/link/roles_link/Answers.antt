@@ -1,78 +1,86 @@
 -- Each rule with a link by its arm; the others ask for no roles.
 use native.Mathlib.Omega.{arith}
-use mathlib.Core.Path.{refl}
+use Rattle.std.proofs.Common.{rules}
 use Rattle.record_decoded.specs.Kinds.{role_numbered}
 use Rattle.relation_links.specs.Links.{roles_link}
-use Rattle.relation_links.proofs.RoleLaws.{roles_at, past_four, roles_none}
+use Rattle.relation_links.proofs.RoleLaws.{roles_at, roles_none}
 use Rattle.relation_links.proofs.link.roles_link.Goals as goal
 
-pub returns-in-1 : goal.returns-in-1
+pub returns-then-from_local : goal.returns-then-from_local
 unfolding roles_link
-returns-in-1 c =
-    let a = c.args in
-    roles_at 1 a.rule a.marks a.processor (role_numbered a.a) (role_numbered a.b) (omega arith) (cc)
+returns-then-from_local c = roles_at 1 c.args.rule c.args.marks c.args.processor (role_numbered c.args.a) (role_numbered c.args.b) (omega arith) (search rules)
+
+pub returns-then-is_rv_to : goal.returns-then-is_rv_to
+unfolding roles_link
+returns-then-is_rv_to c = roles_at 1 c.args.rule c.args.marks c.args.processor (role_numbered c.args.a) (role_numbered c.args.b) (omega arith) (search rules)
+
+pub returns-else-is_rv_to : goal.returns-else-is_rv_to
+unfolding roles_link
+returns-else-is_rv_to c = roles_at 1 c.args.rule c.args.marks c.args.processor (role_numbered c.args.a) (role_numbered c.args.b) (omega arith) (search rules)
 
 pub returns-in-2 : goal.returns-in-2
 unfolding roles_link
-returns-in-2 c =
-    let a = c.args in
-    roles_at 2 a.rule a.marks a.processor (role_numbered a.a) (role_numbered a.b) (omega arith) (cc)
+returns-in-2 c = roles_at 2 c.args.rule c.args.marks c.args.processor (role_numbered c.args.a) (role_numbered c.args.b) (omega arith) (search rules)
 
-pub returns-in-3 : goal.returns-in-3
+pub returns-then-is_r : goal.returns-then-is_r
 unfolding roles_link
-returns-in-3 c =
-    let a = c.args in
-    roles_at 3 a.rule a.marks a.processor (role_numbered a.a) (role_numbered a.b) (omega arith) (cc)
+returns-then-is_r c = roles_at 3 c.args.rule c.args.marks c.args.processor (role_numbered c.args.a) (role_numbered c.args.b) (omega arith) (search rules)
+
+pub returns-else-is_r : goal.returns-else-is_r
+unfolding roles_link
+returns-else-is_r c = roles_at 3 c.args.rule c.args.marks c.args.processor (role_numbered c.args.a) (role_numbered c.args.b) (omega arith) (search rules)
 
 pub returns-in-4 : goal.returns-in-4
 unfolding roles_link
-returns-in-4 c =
-    let a = c.args in
-    roles_at 4 a.rule a.marks a.processor (role_numbered a.a) (role_numbered a.b) (omega arith) refl
+returns-in-4 c = roles_at 4 c.args.rule c.args.marks c.args.processor (role_numbered c.args.a) (role_numbered c.args.b) (omega arith) (search rules)
 
-pub returns-in-5 : goal.returns-in-5
+pub returns-then-is_lv-2 : goal.returns-then-is_lv-2
 unfolding roles_link
-returns-in-5 c =
-    let a = c.args in
-    roles_at 5 a.rule a.marks a.processor (role_numbered a.a) (role_numbered a.b) (omega arith) (cc)
+returns-then-is_lv-2 c = roles_at 5 c.args.rule c.args.marks c.args.processor (role_numbered c.args.a) (role_numbered c.args.b) (omega arith) (search rules)
 
-pub returns-in-6 : goal.returns-in-6
+pub returns-else-is_lv-2 : goal.returns-else-is_lv-2
 unfolding roles_link
-returns-in-6 c =
-    let a = c.args in
-    roles_at 6 a.rule a.marks a.processor (role_numbered a.a) (role_numbered a.b) (omega arith) (cc)
+returns-else-is_lv-2 c = roles_at 5 c.args.rule c.args.marks c.args.processor (role_numbered c.args.a) (role_numbered c.args.b) (omega arith) (search rules)
 
-pub returns-in-7 : goal.returns-in-7
+pub returns-then-is_lv-3 : goal.returns-then-is_lv-3
 unfolding roles_link
-returns-in-7 c =
-    let a = c.args in
-    roles_at 7 a.rule a.marks a.processor (role_numbered a.a) (role_numbered a.b) (omega arith) (cc)
+returns-then-is_lv-3 c = roles_at 7 c.args.rule c.args.marks c.args.processor (role_numbered c.args.a) (role_numbered c.args.b) (omega arith) (search rules)
 
-pub returns-in-8 : goal.returns-in-8
+pub returns-else-is_lv-3 : goal.returns-else-is_lv-3
 unfolding roles_link
-returns-in-8 c =
-    let a = c.args in
-    roles_at 8 a.rule a.marks a.processor (role_numbered a.a) (role_numbered a.b) (omega arith) (cc)
+returns-else-is_lv-3 c = roles_at 7 c.args.rule c.args.marks c.args.processor (role_numbered c.args.a) (role_numbered c.args.b) (omega arith) (search rules)
 
-pub returns-in-13 : goal.returns-in-13
+pub returns-then-is_end : goal.returns-then-is_end
 unfolding roles_link
-returns-in-13 c =
-    let a = c.args in
-    roles_at 13 a.rule a.marks a.processor (role_numbered a.a) (role_numbered a.b) (omega arith) (cc)
+returns-then-is_end c = roles_at 8 c.args.rule c.args.marks c.args.processor (role_numbered c.args.a) (role_numbered c.args.b) (omega arith) (search rules)
 
-pub returns-in-15 : goal.returns-in-15
+pub returns-else-is_end : goal.returns-else-is_end
 unfolding roles_link
-returns-in-15 c =
-    let a = c.args in
-    roles_at 15 a.rule a.marks a.processor (role_numbered a.a) (role_numbered a.b) (omega arith) (cc)
+returns-else-is_end c = roles_at 8 c.args.rule c.args.marks c.args.processor (role_numbered c.args.a) (role_numbered c.args.b) (omega arith) (search rules)
+
+pub returns-then-is_access : goal.returns-then-is_access
+unfolding roles_link
+returns-then-is_access c = roles_at 13 c.args.rule c.args.marks c.args.processor (role_numbered c.args.a) (role_numbered c.args.b) (omega arith) (search rules)
+
+pub returns-else-is_access : goal.returns-else-is_access
+unfolding roles_link
+returns-else-is_access c = roles_at 13 c.args.rule c.args.marks c.args.processor (role_numbered c.args.a) (role_numbered c.args.b) (omega arith) (search rules)
+
+pub returns-then-is_r-2 : goal.returns-then-is_r-2
+unfolding roles_link
+returns-then-is_r-2 c = roles_at 6 c.args.rule c.args.marks c.args.processor (role_numbered c.args.a) (role_numbered c.args.b) (omega arith) (search rules)
+
+pub returns-else-is_r-2 : goal.returns-else-is_r-2
+unfolding roles_link
+returns-else-is_r-2 c = roles_at 6 c.args.rule c.args.marks c.args.processor (role_numbered c.args.a) (role_numbered c.args.b) (omega arith) (search rules)
 
 pub returns-in_default : goal.returns-in_default
-returns-in_default c =
-    let a = c.args in
-    let r = c.in_default.in_default-own.rest in
-    roles_none a.rule a.marks a.processor (role_numbered a.a) (role_numbered a.b)
-    (λ h.
-    past_four a.rule 4 (past_four a.rule 0 h r.0.0.0.0.0.0.0.0.0.1 r.0.0.0.0.0.0.0.0.1 r.0.0.0.0.0.0.0.1 r.0.0.0.0.0.0.1)
-    r.0.0.0.0.0.1 r.0.0.0.0.1 r.0.0.0.1 r.0.0.1)
-    r.0.1
-    r.1
+returns-in_default c = roles_none c.args.rule c.args.marks c.args.processor (role_numbered c.args.a) (role_numbered c.args.b) (λ h. omega arith) (λ e. omega arith) (λ e. omega arith)
+
+pub returns-then-is_r-3 : goal.returns-then-is_r-3
+unfolding roles_link
+returns-then-is_r-3 c = roles_at 15 c.args.rule c.args.marks c.args.processor (role_numbered c.args.a) (role_numbered c.args.b) (omega arith) (search rules)
+
+pub returns-else-is_r-3 : goal.returns-else-is_r-3
+unfolding roles_link
+returns-else-is_r-3 c = roles_at 15 c.args.rule c.args.marks c.args.processor (role_numbered c.args.a) (role_numbered c.args.b) (omega arith) (search rules)

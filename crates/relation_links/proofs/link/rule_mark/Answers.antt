@@ -1,7 +1,7 @@
 -- Each rule with a mark of its own by its arm; the others ask for mark 1.
 use native.Mathlib.Omega.{arith}
 use Rattle.relation_links.specs.Links.{rule_mark}
-use Rattle.relation_links.proofs.RoleLaws.{past_three, past_four, mark_at_lem, mark_none}
+use Rattle.relation_links.proofs.RoleLaws.{mark_at_lem, mark_none, mark_overlap}
 use Rattle.relation_links.proofs.link.rule_mark.Goals as goal
 
 pub returns-in-2 : goal.returns-in-2
@@ -16,18 +16,6 @@ pub returns-in-4 : goal.returns-in-4
 unfolding rule_mark
 returns-in-4 c = (mark_at_lem 4 c.args.rule (omega arith), omega arith)
 
-pub returns-in-5 : goal.returns-in-5
-unfolding rule_mark
-returns-in-5 c = (mark_at_lem 5 c.args.rule (omega arith), omega arith)
-
-pub returns-in-6 : goal.returns-in-6
-unfolding rule_mark
-returns-in-6 c = (mark_at_lem 6 c.args.rule (omega arith), omega arith)
-
-pub returns-in-7 : goal.returns-in-7
-unfolding rule_mark
-returns-in-7 c = (mark_at_lem 7 c.args.rule (omega arith), omega arith)
-
 pub returns-in-8 : goal.returns-in-8
 unfolding rule_mark
 returns-in-8 c = (mark_at_lem 8 c.args.rule (omega arith), omega arith)
@@ -36,11 +24,11 @@ pub returns-in-13 : goal.returns-in-13
 unfolding rule_mark
 returns-in-13 c = (mark_at_lem 13 c.args.rule (omega arith), omega arith)
 
+pub returns-in-5-to-7 : goal.returns-in-5-to-7
+returns-in-5-to-7 c = (mark_overlap c.args.rule (omega arith) (omega arith), omega arith)
+
 pub returns-in_default : goal.returns-in_default
-returns-in_default c =
-    let r = c.in_default.in_default-own.rest in (
-      mark_none c.args.rule
-          (λ h. past_four c.args.rule 4 (past_three c.args.rule 1 h r.0.0.0.0.0.0.0.1 r.0.0.0.0.0.0.1 r.0.0.0.0.0.1)
-          r.0.0.0.0.1 r.0.0.0.1 r.0.0.1 r.0.1) r.1,
-      omega arith,
-    )
+returns-in_default c = (mark_none c.args.rule (λ h. omega arith) (λ e. omega arith), omega arith)
+
+pub returns-in_default-2 : goal.returns-in_default-2
+returns-in_default-2 c = (mark_none c.args.rule (λ h. omega arith) (λ e. omega arith), omega arith)

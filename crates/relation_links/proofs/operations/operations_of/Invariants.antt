@@ -1,5 +1,4 @@
 -- Each turn adds the operations of one instruction more.
-use Prim.Native.Nat.{◌≤◌}
 use lib.ListN.{take}
 use Rattle.base.specs.Lists.{for}
 use Rattle.model.specs.Execution.{operation_count, operations_of}
@@ -9,4 +8,4 @@ use Rattle.relation_links.proofs.operations.operations_of.Given as goal
 
 abbrev pub invariant-loop-i : goal.invariant-loop-i
 invariant-loop-i l =
-    (l.i ≤ l.n) × Tabled l.is l.table (for (take l.i (instructions_of l.is)) (operations_of l.processors)) (operation_count l.processors (take l.i (instructions_of l.is)))
+    Tabled l.is l.table (for (take l.i (instructions_of l.is)) (operations_of l.processors)) (operation_count l.processors (take l.i (instructions_of l.is)))

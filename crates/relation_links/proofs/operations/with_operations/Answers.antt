@@ -17,37 +17,13 @@ pub loop-place-init : goal.loop-place-init
 loop-place-init c =
     let long : length c.args.t.owners ≡ 128 = search rules in
     let long_roles : length c.args.t.roles ≡ 128 = search rules in
-    (omega arith, filled_none long long_roles)
-
-pub overflow_add-o : goal.overflow_add-o
-overflow_add-o c = omega (arith, room c.args.t.count c.args.processors c.operation_count-n.ensures c.kind_of-kind.ensures c.requires.room)
-
-pub overflow_cast-owners : goal.overflow_cast-owners
-overflow_cast-owners c = omega arith
-
-pub bounds-owners-o : goal.bounds-owners-o
-bounds-owners-o c = omega (arith, room c.args.t.count c.args.processors c.operation_count-n.ensures c.kind_of-kind.ensures c.requires.room)
-
-pub overflow_cast-place : goal.overflow_cast-place
-overflow_cast-place c = omega (arith, room c.args.t.count c.args.processors c.operation_count-n.ensures c.kind_of-kind.ensures c.requires.room)
-
-pub role_of-requires : goal.role_of-requires
-role_of-requires c = omega (arith, room c.args.t.count c.args.processors c.operation_count-n.ensures c.kind_of-kind.ensures c.requires.room)
-
-pub bounds-roles-o : goal.bounds-roles-o
-bounds-roles-o c = omega (arith, room c.args.t.count c.args.processors c.operation_count-n.ensures c.kind_of-kind.ensures c.requires.room)
-
-pub overflow_step-place : goal.overflow_step-place
-overflow_step-place c = omega (arith, room c.args.t.count c.args.processors c.operation_count-n.ensures c.kind_of-kind.ensures c.requires.room)
-
-pub loop-place-smaller : goal.loop-place-smaller
-loop-place-smaller c = omega arith
+    filled_none long long_roles
 
 pub loop-place-preserved : goal.loop-place-preserved
-loop-place-preserved c = (omega arith, filled_more c.loop-place.invariant.1 c.role_of.result (omega (arith, room c.args.t.count c.args.processors c.operation_count-n.ensures c.kind_of-kind.ensures c.requires.room)) c.role_of.ensures)
+loop-place-preserved c = filled_more c.loop-place.invariant c.role_of.result (omega (arith, room c.args.t.count c.args.processors c.operation_count-n.ensures c.kind_of-kind.ensures c.requires.room)) c.role_of.ensures
 
-pub overflow_add-count : goal.overflow_add-count
-overflow_add-count c =
+pub overflow_add-result : goal.overflow_add-result
+overflow_add-result c =
     let a = c.args in
     let n = c.operation_count-n.ensures ∙ ap (λ (k : Kind). length (roles a.processors k)) c.kind_of-kind.ensures in
     omega (arith, n, c.requires.room)
@@ -58,10 +34,10 @@ returns c =
     let kind = meant c.kind_of-kind.result in
     let inv = c.loop-place.invariant in
     let n : c.operation_count-n.result ≡ length (roles a.processors kind) = c.operation_count-n.ensures in
-    let all : c.loop-place.place ≡ length (roles a.processors kind) = omega (arith, n, inv.0, c.loop-place-test.false) in
+    let all : c.loop-place.place ≡ length (roles a.processors kind) = omega (arith, n, c.loop-place.auto.place-end, c.loop-place-test.false) in
     record {
       holds = table_more a.is a.t (record { count = a.t.count + c.operation_count-n.result; owners = c.loop-place.owners; roles = c.loop-place.roles }) a.instruction.0 a.processors kind c.kind_of-kind.ensures c.requires.next.2
           (ap (λ (k : ℕ). a.t.count + k) n)
-          (subst (λ (k : ℕ). Filled a.t.owners a.t.roles a.t.count a.instruction.0 kind k c.loop-place.owners c.loop-place.roles) all inv.1);
+          (subst (λ (k : ℕ). Filled a.t.owners a.t.roles a.t.count a.instruction.0 kind k c.loop-place.owners c.loop-place.roles) all inv);
       counts = ap (λ (k : ℕ). a.t.count + k) n ∙ ap (λ (k : Kind). a.t.count + length (roles a.processors k)) c.kind_of-kind.ensures;
     }

@@ -1,24 +1,38 @@
--- Those of memory and of a pair; else the marks packed, from the highest bit down.
-use mathlib.Core.Path.{refl, sym, ap, ◌∙◌}
-use mathlib.Core.Bool.{Bool, ◌&&◌}
+-- Those that only an earlier instruction has, and the others, each at its bit.
+use Prim.Native.Nat.{ℕ}
+use native.Mathlib.Omega.{arith}
+use mathlib.Core.Path.{◌≡◌, refl, ◌∙◌}
+use mathlib.Core.Bool.{Bool, true, false, cond}
+use mir.Val.{bool_byte}
 use Rattle.record_decoded.specs.Kinds.{meant, attribute_meant}
-use Rattle.relation_marks.proofs.BetweenLaws.{put_together, unrelated_together}
-use Rattle.relation_marks.proofs.MarkLaws.{mark_more}
+use Rattle.relation_marks.proofs.BetweenLaws.{put_together}
 use Rattle.relation_marks.proofs.between.marks_by.Goals as goal
 
-pub returns-then-not-either : goal.returns-then-not-either
-returns-then-not-either c =
-    let g = c.args in
-    unrelated_together g.same g.own g.earlier g.overlaps g.given (meant g.first) (meant g.second) (attribute_meant g.of_first) (attribute_meant g.of_second)
-    (sym c.either.ensures ∙ c.if-not-either.true) c.unrelated_marks.ensures c.memory_marks-memory.ensures.0 c.semaphore_marks-semaphores.ensures.0
+abbrev bit : Bool → ℕ
+bit b = cond b 1 0
+
+-- a test as a number
+as_bit : {n : ℕ} {a b : Bool} → n ≡ bool_byte a → a ≡ b → n ≡ bit b
+as_bit {n} {a} {b} h e = h ∙ go a ∙ cc
+  where
+    go : (d : Bool) → bool_byte d ≡ bit d
+    go true = refl
+    go false = refl
 
 pub returns : goal.returns
 returns c =
-    let g = c.args in
-    put_together g.same g.own g.earlier g.overlaps g.given (meant g.first) (meant g.second) (attribute_meant g.of_first) (attribute_meant g.of_second)
-    c.with_mark.ensures.0 c.with_program_marks-program.ensures.0
-    (mark_more c.with_mark-overlap.ensures.0 c.both-2.ensures refl)
-    c.with_mark-pair.ensures.0
-    (mark_more c.with_mark-domain.ensures.0
-    (c.both.ensures ∙ ap (λ (t : Bool). g.earlier && t) c.same_domain.ensures) refl)
-    c.memory_marks-memory.ensures.0 c.semaphore_marks-semaphores.ensures.0
+    let b = c.args.between in
+    let i = c.args.first in
+    let j = c.args.second in
+    omega (
+      arith,
+      put_together b.same b.own b.earlier b.overlaps b.given (meant i.kind) (meant j.kind) (attribute_meant i.attribute) (attribute_meant j.attribute),
+      as_bit c.from.ensures refl,
+      as_bit c.from-2.ensures refl,
+      as_bit c.from-3.ensures c.is_conflict.ensures,
+      as_bit c.from-4.ensures c.is_bypass.ensures,
+      as_bit c.from-5.ensures c.is_atomic.ensures,
+      as_bit c.from-6.ensures c.is_lock.ensures,
+      as_bit c.from-7.ensures c.is_semaphore.ensures,
+      as_bit c.from-8.ensures c.is_semaphore-2.ensures,
+    )

@@ -1,5 +1,5 @@
 -- Each turn enters the marks with one instruction more.
-use Prim.Native.Nat.{ℕ, ◌≤◌}
+use Prim.Native.Nat.{ℕ}
 use mathlib.Core.Path.{◌≡◌}
 use mathlib.Core.List.{List}
 use Rattle.base.proofs.Entries.{Entered}
@@ -9,4 +9,4 @@ use Rattle.relation_marks.proofs.between.marks_row.Given as goal
 
 abbrev pub invariant-loop-k : goal.invariant-loop-k
 invariant-loop-k l =
-    (l.k ≤ l.n) × Entered 40 0 (λ j r. (bytes : List ℕ) → r ≡ marks_between (execution_of bytes l.x) (instruction_at l.x.instructions l.first) (instruction_at l.x.instructions j)) l.k l.row
+    Entered 40 0 (λ j r. (bytes : List ℕ) → r ≡ marks_between (execution_of bytes l.x) (instruction_at l.x.instructions l.i) (instruction_at l.x.instructions j)) l.k l.row

@@ -1,39 +1,16 @@
--- No pair; else the pairs passed are others; the first that is the given one decides.
-use mathlib.Core.Path.{ap₂, ◌∙◌}
-use mathlib.Core.Bool.{◌&&◌}
-use lib.ListN.{get_or}
-use lib.Dec.{eqb}
-use Rattle.base.proofs.Tests.{seeks, passes_by, meets, finds_none}
-use Rattle.relation_marks.proofs.MarkLaws.{pair_by_index}
+-- Some entry of the arrays is the pair.
+use mathlib.Core.Path.{refl, ◌∙◌}
 use native.Mathlib.Omega.{arith}
+use borrow.Author.Tests.{tests}
+use Rattle.std.proofs.Common.{rules}
+use Rattle.std.proofs.lemmas.Iterator.{YieldsList-from_range}
+use Rattle.std.proofs.lemmas.Iterator.Search.{any_from_yields_List}
+use Rattle.relation_marks.proofs.MarkLaws.{is_given_at, pair_by_index}
 use Rattle.relation_marks.proofs.memory.is_pair.Goals as goal
-
-pub returns-then-n-eq0 : goal.returns-then-n-eq0
-returns-then-n-eq0 c =
-    let a = c.args in
-    finds_none (seeks {n = a.pairs.count} {p = λ i. eqb (get_or a.pairs.earlier i 0) a.earlier.0 && eqb (get_or a.pairs.later i 0) a.later.0}) (omega (arith, c.if-n-eq0.true))
-    ∙ pair_by_index a.pairs a.earlier.0 a.later.0
-
-pub loop-k-init : goal.loop-k-init
-loop-k-init c = seeks
-
-pub returns-then-both : goal.returns-then-both
-returns-then-both c =
-    let a = c.args in
-    meets c.loop-k.invariant c.loop-k-test.true
-    (c.both.ensures ∙ ap₂ (λ j k. eqb j a.earlier.0 && eqb k a.later.0) c.wide-first.ensures.0 c.wide-second.ensures.0) c.if-both.true
-    ∙ pair_by_index a.pairs a.earlier.0 a.later.0
-
-pub loop-k-smaller : goal.loop-k-smaller
-loop-k-smaller c = omega arith
-
-pub loop-k-preserved : goal.loop-k-preserved
-loop-k-preserved c =
-    let a = c.args in
-    passes_by c.loop-k.invariant c.loop-k-test.true
-    (c.both.ensures ∙ ap₂ (λ j k. eqb j a.earlier.0 && eqb k a.later.0) c.wide-first.ensures.0 c.wide-second.ensures.0) c.if-both.false
 
 pub returns : goal.returns
 returns c =
     let a = c.args in
-    finds_none c.loop-k.invariant c.loop-k-test.false ∙ pair_by_index a.pairs a.earlier.0 a.later.0
+    any_from_yields_List (is_given_at a.pairs a.earlier.0 a.later.0) _ _ c.any.result c.any.ensures.ran
+    (YieldsList-from_range 0 a.pairs.count a.pairs.count refl (omega arith)) (λ x b q k. search (rules, tests))
+    ∙ pair_by_index a.pairs a.earlier.0 a.later.0
