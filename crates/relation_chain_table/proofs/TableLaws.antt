@@ -24,7 +24,10 @@ use Rattle.relation_links.specs.declared.operations.Operations.{Operations}
 use Rattle.relation_links.specs.Operations.{Tabled}
 use Rattle.relation_links.specs.Compiled.{CompiledIn}
 use Rattle.relation_links.proofs.CompiledLaws.{few_operations, few_instructions, owner_there}
-use Rattle.relation_chain_table.specs.declared.TableAnswer.TheVariants.{Done, Refused}
+use Rattle.std.specs.Prelude.{Ok, Err}
+use Rattle.record_decoded.specs.declared.question.Question.{Question}
+use Rattle.record_decoded.specs.declared.question.Question.TheVariants.{TableLength}
+use Rattle.record_decoded.specs.Refusals.{question_number}
 use Rattle.relation_chain_table.specs.Replies.{reply_of}
 use Rattle.relation_links.specs.Linked.{linked_at}
 use Rattle.relation_chain_table.specs.Squares.{mark_of, marked, MarksAre, via, closed_by, row_marks, square_marks}
@@ -35,7 +38,7 @@ use Rattle.relation_chain_table.proofs.LinkedLaws.{links_within, leads_here}
 
 module _ (bytes table : List ℕ) where
   -- a record that is refused
-  pub call_refused : {q : ℕ} → read_all bytes ≡ refuses q → reply_of (Refused q) table ≡ table_call bytes table
+  pub call_refused : (q : Question) → read_all bytes ≡ refuses (question_number q) → reply_of (Err q) table ≡ table_call bytes table
   unfolding table_call tabling table_reply
   call_refused {q} h = ap (table_reply table) (after_refuses (λ d. table_marks d table) h)
 
@@ -85,7 +88,7 @@ module _ (bytes : List ℕ) (x : Execution) (a : Accepted (execution_of bytes x)
     room_is : (table : List ℕ) → leb (operations e * operations e) (length table) ≡ leb (t.count * t.count) (length table)
     room_is table = ap (λ (n : ℕ). leb (n * n) (length table)) (sym counts)
 
-    pub refuses_22 : (table : List ℕ) → length table < t.count * t.count → reply_of (Refused 22) table ≡ table_reply table (table_marks e table)
+    pub refuses_22 : (table : List ℕ) → length table < t.count * t.count → reply_of (Err TableLength) table ≡ table_reply table (table_marks e table)
     unfolding table_marks table_reply
     refuses_22 table h = ap (table_reply table) (asked_no 22 _ (room_is table ∙ lt-leb (t.count * t.count) (length table) h))
 
@@ -107,8 +110,8 @@ module _ (bytes : List ℕ) (x : Execution) (a : Accepted (execution_of bytes x)
             ∙ marks_written_lem (operations e) (links_of e (linked e)) chains (links_within e (linked e) a.consecutive) holds
 
         pub says_marks : (table now : List ℕ) → t.count * t.count ≤ length table → now ≡ square_marks chains t.count t.count ++ drop (t.count * t.count) table
-            → reply_of Done now ≡ table_reply table (table_marks e table)
+            → reply_of (Ok tt) now ≡ table_reply table (table_marks e table)
         unfolding table_marks table_reply
         says_marks table now h made =
-            ap (reply_of Done) (made ∙ ap₂ (λ (l : List ℕ) (k : ℕ). l ++ drop k table) written (sym (square_length chains t.count t.count) ∙ ap length written))
+            ap (reply_of (Ok tt)) (made ∙ ap₂ (λ (l : List ℕ) (k : ℕ). l ++ drop k table) written (sym (square_length chains t.count t.count) ∙ ap length written))
             ∙ ap (table_reply table) (asked_yes 22 _ (room_is table ∙ le-leb (t.count * t.count) (length table) h))

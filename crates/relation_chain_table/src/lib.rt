@@ -10,8 +10,9 @@ ghost use Rattle.relation_chain_table.specs.Replies.{reply_of};
 use crate::closure::closed;
 use crate::rows::write_rows;
 use crate::square::links_square;
+use record_decoded::question::Question;
 use record_decoded::types::Execution;
-use record_reader::reader::{Answer, read};
+use record_reader::reader::read;
 use relation_links::operations::operations_of;
 use relation_marks::between::all_marks;
 
@@ -19,15 +20,9 @@ pub mod closure;
 pub mod rows;
 pub mod square;
 
-#[derive(Clone, Copy)]
-pub enum TableAnswer {
-    Done,
-    Refused(u8),
-}
-
 // Question 22, then the table: the links, closed to chains, then written out. No link depends on the initial bytes: the contract holds
 // whatever they are.
-fn write_chains(x: Execution, table: &mut [u8]) -> TableAnswer
+fn write_chains(x: Execution, table: &mut [u8]) -> Result<(), Question>
     requires { (bytes : List ℕ) → Accepted (execution_of bytes x) }
     ensures { (bytes : List ℕ) → reply_of result table.new ≡ table_reply table.old (table_marks (execution_of bytes x) table.old) }
 {
@@ -35,24 +30,19 @@ fn write_chains(x: Execution, table: &mut [u8]) -> TableAnswer
     let t = operations_of(is, x.processors);
     let n = t.count;
     if table.len() < n * n {
-        return TableAnswer::Refused(22);
+        return Err(Question::TableLength);
     }
     let marks = all_marks(x);
     let links = links_square(is, t, &marks);
     let chains = closed(links, n);
     write_rows(table, &chains, n);
-    TableAnswer::Done
+    Ok(())
 }
 
 // Writes the N rows of N marks at the front of the table.
-pub fn chain_table(bytes: &[u8], table: &mut [u8]) -> TableAnswer
+pub fn chain_table(bytes: &[u8], table: &mut [u8]) -> Result<(), Question>
     ensures { reply_of result table.new ≡ table_call bytes.now table.old }
 {
-    let reading = read(bytes);
-    let answer = reading.answer;
-    let x = reading.execution;
-    match answer {
-        Answer::Refused(q) => TableAnswer::Refused(q),
-        Answer::Accepted => write_chains(x, table),
-    }
+    let x = read(bytes)?;
+    write_chains(x, table)
 }
