@@ -1,5 +1,7 @@
 -- Answers as numbers: 256 + q for a call that question q refuses.
-use Rattle.std.specs.Prelude.{ℕ, ◌+◌, ◌≡◌, List}
+use Rattle.std.specs.Prelude.{ℕ, ◌+◌, ◌≡◌, List, Result, Ok, Err}
+use Rattle.record_decoded.specs.declared.question.Question.{Question}
+use Rattle.record_decoded.specs.Refusals.{question_number}
 use Rattle.model.specs.Execution.{Execution}
 use Rattle.model.specs.Search.{Verdict, allowed, forbidden, unfinished}
 use Rattle.model.specs.Calls as calls
@@ -7,6 +9,11 @@ use Rattle.capi.specs.declared.SearchReply.{SearchReply}
 use Rattle.capi.specs.declared.RecordReply.{RecordReply}
 use Rattle.model.specs.Calls.{Answer, says, refuses, Judgement, legal, breaks, Done, done}
 use Rattle.model.specs.Renumbering.{Comparison, equal, left_first, right_first, HandedBack, left_record, right_record, empty_part}
+
+-- 0 for a call that is done and says no more
+abbrev pub call_number : Result (Unit {0}) Question → ℕ
+call_number (Ok u) = 0
+call_number (Err q) = 256 + question_number q
 
 -- 0 for a record that is accepted
 abbrev pub check_number : Answer Execution → ℕ

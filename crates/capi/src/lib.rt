@@ -1,20 +1,37 @@
 // The calls open to C and Rust: each answer as a number. A slice passes as a pointer, then its length.
 #![tactic(auto)]
 
-ghost use Rattle.std.specs.Prelude.{◌≡◌, List, ℕ};
-ghost use Rattle.model.specs.Calls.{read_all, judge_call, table_call, search_call};
+ghost use Rattle.std.specs.Prelude.{◌≡◌, ◌+◌, List, ℕ};
+ghost use Rattle.model.specs.Calls.{says, read_all, judge_call, table_call, search_call};
 ghost use Rattle.model.specs.Sections.{sections_from, write_call};
 ghost use Rattle.model.specs.SolversCopy.{solvers_copy_call};
 ghost use Rattle.model.specs.Renumbering.{compare_call, stands_first};
+ghost use Rattle.record_decoded.specs.Refusals.{question_number};
 ghost use Rattle.record_writer.specs.Replies.{reply_of};
-ghost use Rattle.capi.specs.Numbers.{check_number, judge_number, done_number, compare_number, handed_number, Searched, Recorded};
+ghost use Rattle.search_resume.specs.Replies.{verdict_meant};
+ghost use Rattle.capi.specs.Numbers.{call_number, check_number, judge_number, done_number, search_number, compare_number, handed_number, Searched, Recorded};
 
-use judge_call::Judgement;
-use record_compare::{Compared, HandedBack};
-use record_reader::reader::Answer;
-use record_writer::{WriteAnswer, WriteReply};
-use relation_chain_table::TableAnswer;
-use search_call::call::SearchAnswer;
+use record_compare::HandedBack;
+use record_decoded::question::Question;
+use search_resume::steps::Verdict;
+use std::cmp::Ordering;
+
+// The number of a call that a question refuses.
+fn refusal(q: Question) -> u32
+    ensures { result ≡ 256 + question_number q }
+{
+    256 + u32::from(q.number())
+}
+
+// 0 for a call that is done.
+fn done_or_refusal(done: Result<(), Question>) -> u32
+    ensures { result ≡ call_number done }
+{
+    match done {
+        Ok(()) => 0,
+        Err(q) => refusal(q),
+    }
+}
 
 // Whether a record passes questions 1 to 15, 26 and 27: 0, or 256 + the first question that fails.
 #[unsafe(no_mangle)]
@@ -22,11 +39,7 @@ pub extern "C" fn oglindesh_check(bytes: &[u8]) -> u32
     ensures { result ≡ check_number (read_all bytes.now) }
 {
     let reading = record_reader::reader::read(bytes);
-    let answer = reading.answer;
-    match answer {
-        Answer::Accepted => 0,
-        Answer::Refused(q) => 256 + q as u32,
-    }
+    done_or_refusal(reading.map(|_| ()))
 }
 
 // Whether an order is legal: 0, or the lowest rule that it breaks; 256 + the first question that fails.
@@ -35,11 +48,7 @@ pub extern "C" fn oglindesh_judge(bytes: &[u8], order: &[u8]) -> u32
     ensures { result ≡ judge_number (judge_call bytes.now order.now) }
 {
     let judgement = judge_call::judge(bytes, order);
-    match judgement {
-        Judgement::Refused(q) => 256 + q as u32,
-        Judgement::Legal => 0,
-        Judgement::Breaks(rule) => rule as u32,
-    }
+    judgement.map_or_else(refusal, |lowest| lowest.map_or(0, u32::from))
 }
 
 // Writes the chain table: 0, or 256 + the first question that fails.
@@ -47,11 +56,7 @@ pub extern "C" fn oglindesh_judge(bytes: &[u8], order: &[u8]) -> u32
 pub extern "C" fn oglindesh_chains(bytes: &[u8], table: &mut [u8]) -> u32
     ensures { (result ≡ done_number (table_call bytes.now table.old).answer) × (table.new ≡ (table_call bytes.now table.old).table) }
 {
-    let answer = relation_chain_table::chain_table(bytes, table);
-    match answer {
-        TableAnswer::Done => 0,
-        TableAnswer::Refused(q) => 256 + q as u32,
-    }
+    done_or_refusal(relation_chain_table::chain_table(bytes, table))
 }
 
 // The answer as a number, the steps made, and the length of the position that is left at the front of the buffer.
@@ -61,6 +66,17 @@ pub struct SearchReply {
     pub answer: u32,
     pub steps: u32,
     pub length: usize,
+}
+
+// The number of a verdict.
+fn verdict_number(verdict: Verdict) -> u32
+    ensures { result ≡ search_number (says (verdict_meant verdict)) }
+{
+    match verdict {
+        Verdict::Unfinished => 0,
+        Verdict::Allowed => 1,
+        Verdict::Forbidden => 2,
+    }
 }
 
 // Searches on from the position of the first `saved` entries of the buffer. The answer is 0 unfinished, 1 allowed, 2 forbidden; 256 + the first question
@@ -74,30 +90,16 @@ pub extern "C" fn oglindesh_search(
 ) -> SearchReply
     ensures { Searched (search_call bytes.now buffer.old saved allowance) result buffer.new }
 {
-    let reply = search_call::call::search(bytes, buffer, saved, allowance);
-    let found = reply.answer;
-    let steps = reply.steps;
-    let length = reply.length;
-    match found {
-        SearchAnswer::Unfinished => SearchReply {
-            answer: 0,
-            steps,
-            length,
+    match search_call::call::search(bytes, buffer, saved, allowance) {
+        Ok(reply) => SearchReply {
+            answer: verdict_number(reply.verdict),
+            steps: reply.steps,
+            length: reply.length,
         },
-        SearchAnswer::Allowed => SearchReply {
-            answer: 1,
-            steps,
-            length,
-        },
-        SearchAnswer::Forbidden => SearchReply {
-            answer: 2,
-            steps,
-            length,
-        },
-        SearchAnswer::Refused(q) => SearchReply {
-            answer: 256 + q as u32,
-            steps,
-            length,
+        Err(q) => SearchReply {
+            answer: refusal(q),
+            steps: 0,
+            length: saved,
         },
     }
 }
@@ -111,16 +113,14 @@ pub struct RecordReply {
 }
 
 // The reply of a call that writes a record, as numbers.
-fn reply_of(written: WriteReply) -> RecordReply
+fn reply_of(written: Result<usize, Question>) -> RecordReply
     ensures { (buffer : List ℕ) → Recorded (reply_of written buffer) result buffer }
 {
-    let answer = written.answer;
-    let length = written.length;
-    match answer {
-        WriteAnswer::Done => RecordReply { answer: 0, length },
-        WriteAnswer::Refused(q) => RecordReply {
-            answer: 256 + q as u32,
-            length,
+    match written {
+        Ok(length) => RecordReply { answer: 0, length },
+        Err(q) => RecordReply {
+            answer: refusal(q),
+            length: 0,
         },
     }
 }
@@ -154,12 +154,11 @@ pub extern "C" fn oglindesh_solvers_copy(bytes: &[u8], buffer: &mut [u8]) -> Rec
 pub extern "C" fn oglindesh_compare(left: &[u8], right: &[u8]) -> u32
     ensures { result ≡ compare_number (compare_call left.now right.now) }
 {
-    let compared = record_compare::compare(left, right);
-    match compared {
-        Compared::Equal => 0,
-        Compared::LeftFirst => 1,
-        Compared::RightFirst => 2,
-        Compared::Refused(q) => 256 + q as u32,
+    match record_compare::compare(left, right) {
+        Ok(Ordering::Equal) => 0,
+        Ok(Ordering::Less) => 1,
+        Ok(Ordering::Greater) => 2,
+        Err(q) => refusal(q),
     }
 }
 
@@ -168,8 +167,7 @@ pub extern "C" fn oglindesh_compare(left: &[u8], right: &[u8]) -> u32
 pub extern "C" fn oglindesh_first(left: &[u8], right: &[u8]) -> u32
     ensures { result ≡ handed_number (stands_first (compare_call left.now right.now)) }
 {
-    let handed = record_compare::stands_first(left, right);
-    match handed {
+    match record_compare::stands_first(left, right) {
         HandedBack::Left => 1,
         HandedBack::Right => 2,
         HandedBack::Empty => 0,

@@ -5,113 +5,94 @@ use mathlib.Core.Path.{◌≡◌, sym, ap, ◌∙◌, subst}
 use mathlib.Core.Bool.{Bool, true, false, cond}
 use mathlib.Core.List.{List, [], ◌∷◌, ◌++◌, append-nil, append_assoc}
 use lib.ListN.{length, get_or, take, drop, length-append, length-drop, length-take}
-use lib.Seq.{take-nil, drop-drop, paste}
+use lib.Seq.{take_all, paste}
 use lib.Dec.{eqb}
-use Rattle.base.specs.Lists.{keep, for}
-use Rattle.model.specs.Sections.{section_entry_length, entries_up_to, entries_of, all_whole, program_of}
-use Rattle.record_sections.proofs.Entries.{length_range, Walking, walking_starts, walking_there, walking_turns}
+use Rattle.base.specs.Lists.{all, keep, for}
+use Rattle.base.proofs.Bools.{and_parts}
+use borrow.Author.Tests.{eqb-true}
+use Rattle.model.specs.Sections.{section_entry_length, entries_up_to, entries_of, is_whole, all_whole, program_of}
+use Rattle.record_sections.proofs.Entries.{length_range}
 use Rattle.record_writer.specs.Puts.{Puts}
-use Rattle.record_writer.proofs.WalkLaws.{own, rest_of, rest_starts, rest_next, rest_ends}
+use Rattle.record_writer.proofs.WalkLaws.{own, own_of, own_starts, own_more, own_other, own_ends}
 use Rattle.record_writer.proofs.PutLaws.{puts_none, puts_part, puts_both, puts_same}
 
--- an entry without its first byte
-drop_first : (n : ℕ) (l : List ℕ) → 1 ≤ n → drop 1 (take n l) ≡ take (n - 1) (drop 1 l)
-drop_first zero l h = absurd (omega arith)
-drop_first (suc n) [] h = sym (take-nil (suc n - 1))
-drop_first (suc n) (b ∷ l) h = ap (λ (k : ℕ). take k l) (let z : n ≡ suc n - 1 = omega arith in z)
-
-without_number : (part : List ℕ) (from n : ℕ) → 1 ≤ n → drop 1 (take n (drop from part)) ≡ take (n - 1) (drop (from + 1) part)
-without_number part from n h = drop_first n (drop from part) h ∙ ap (take (n - 1)) (drop-drop 1 from part)
-
 -- The invariant of the walk: what is put and what is left make the whole, and there is room for what is left.
-pub record Putting (before : List ℕ) (at : ℕ) (part : List ℕ) (p from : ℕ) (out : List ℕ) (next : ℕ) : Type 0 where
+pub record Putting (before : List ℕ) (at : ℕ) (part : List ℕ) (p : ℕ) (out : List ℕ) (next : ℕ) (left : List (List ℕ)) : Type 0 where
   pub so_far : List ℕ
-  pub walking : Walking part from
+  pub whole : all is_whole left ≡ true
   pub put : Puts before at so_far out next
-  pub decides : for (program_of part p) (drop 1) ≡ so_far ++ for (rest_of part p from) (drop 1)
-  pub room : next + 19 * length (rest_of part p from) ≤ length out
+  pub decides : for (program_of part p) (drop 1) ≡ so_far ++ for (own_of p left) (drop 1)
+  pub room : next + 19 * length (own_of p left) ≤ length out
 
-pub putting_starts : {before : List ℕ} {at : ℕ} {part : List ℕ} {p : ℕ} → all_whole part ≡ true → at + 19 * length (program_of part p) ≤ length before
-    → Putting before at part p 0 before at
-putting_starts {before} {at} {part} {p} whole room = record {
-  so_far = [];
-  walking = walking_starts part whole;
-  put = puts_none (omega arith);
-  decides = ap (λ (l : List (List ℕ)). for l (drop 1)) (rest_starts part p);
-  room = omega (arith, ap length (rest_starts part p));
-}
+pub putting_starts : {before : List ℕ} {at : ℕ} {part : List ℕ} {p : ℕ} {left : List (List ℕ)} → left ≡ entries_of part
+    → all_whole part ≡ true → at + 19 * length (program_of part p) ≤ length before → Putting before at part p before at left
+unfolding all_whole
+putting_starts {before} {at} {part} {p} {left} e whole room =
+    let own = own_starts part p ∙ ap (own_of p) (sym e) in
+    record {
+      so_far = [];
+      whole = ap (all is_whole) e ∙ whole;
+      put = puts_none (omega arith);
+      decides = ap (λ (l : List (List ℕ)). for l (drop 1)) own;
+      room = omega (arith, ap length own);
+    }
 
-module _ {before : List ℕ} {at : ℕ} {part : List ℕ} {p from : ℕ} {out : List ℕ} {next : ℕ} (inv : Putting before at part p from out next) where
-  module _ {n bytes : ℕ} (more : from < length part) (long : n ≡ section_entry_length (drop from part)) (some : bytes ≡ cond (eqb (get_or part from 0) p) (n - 1) 0) where
-    after : List (List ℕ)
-    after = rest_of part p (from + n)
+module _ {before : List ℕ} {at : ℕ} {part : List ℕ} {p : ℕ} {out : List ℕ} {next : ℕ} {left after : List (List ℕ)} {entry : List ℕ}
+    (inv : Putting before at part p out next left) (taken : left ≡ entry ∷ after) where
+  parts : (is_whole entry ≡ true) × (all is_whole after ≡ true)
+  unfolding all
+  parts = and_parts (is_whole entry) (all is_whole after) (sym (ap (all is_whole) taken) ∙ inv.whole)
 
-    entry : List ℕ
-    entry = take n (drop from part)
+  -- how long the entry is
+  pub entry_some : 12 ≤ length entry
+  unfolding is_whole
+  entry_some = omega (arith, eqb-true (length entry) (section_entry_length entry) parts.0, (length_range entry).0)
 
-    least : 12 ≤ n
-    least = omega (arith, long, (length_range (drop from part)).0)
+  entry_few : length entry ≤ 20
+  unfolding is_whole
+  entry_few = omega (arith, eqb-true (length entry) (section_entry_length entry) parts.0, (length_range entry).1)
 
-    most : n ≤ 20
-    most = omega (arith, long, (length_range (drop from part)).1)
+  module _ (own : get_or entry 0 0 ≡ p) where
+    more : own_of p left ≡ entry ∷ own_of p after
+    more = ap (own_of p) taken ∙ own_more p entry after own
 
-    there : from + n ≤ length part
-    there = omega (arith, long, walking_there inv.walking more)
+    pub putting_room : next + (length entry - 1) ≤ length out
+    putting_room = omega (arith, inv.room, ap length more, entry_few)
 
-    left : rest_of part p from ≡ cond (eqb (get_or part from 0) p) (entry ∷ after) after
-    unfolding after entry
-    left =
-        rest_next part p from more
-        ∙ ap (λ (k : ℕ). cond (eqb (get_or part from 0) p) (take k (drop from part) ∷ rest_of part p (from + k)) (rest_of part p (from + k))) (sym long)
-
-    -- the bytes of one entry are at most 19, and none where it is another processor's
-    few_bytes : (b : Bool) → bytes ≡ cond b (n - 1) 0 → bytes ≤ n - 1
-    few_bytes true h = omega arith
-    few_bytes false h = omega arith
-
-    spent : (b : Bool) → bytes ≡ cond b (n - 1) 0 → bytes + 19 * length after ≤ 19 * length (cond b (entry ∷ after) after)
-    spent true h = omega (arith, most)
-    spent false h = omega arith
-
-    spent_here : bytes + 19 * length after ≤ 19 * length (rest_of part p from)
-    spent_here = omega (arith, spent (eqb (get_or part from 0) p) some, ap length left)
-
-    pub putting_room : next + bytes ≤ length out
-    putting_room = omega (arith, inv.room, spent_here)
-
-    pub putting_there : (from + 1) + bytes ≤ length part
-    putting_there = omega (arith, there, few_bytes (eqb (get_or part from 0) p) some, least)
-
-    piece : (b : Bool) → bytes ≡ cond b (n - 1) 0 → for (cond b (entry ∷ after) after) (drop 1) ≡ take bytes (drop (from + 1) part) ++ for after (drop 1)
-    unfolding for entry
-    piece true h =
-        ap (λ (l : List ℕ). l ++ for after (drop 1)) (without_number part from n (omega (arith, least)) ∙ ap (λ (k : ℕ). take k (drop (from + 1) part)) (sym h))
-    piece false h = ap (λ (k : ℕ). take k (drop (from + 1) part) ++ for after (drop 1)) (sym h)
-
-    pub putting_turns : {y : List ℕ} → y ≡ paste out next (drop (from + 1) part) bytes → Putting before at part p (from + n) y (next + bytes)
-    unfolding after
-    putting_turns {y} e =
-        let rest = drop (from + 1) part in
-        let enough : bytes ≤ length rest = omega (arith, putting_there, length-drop (from + 1) part) in
-        let copied : Puts out next (take bytes rest) y (next + bytes) = puts_part rest bytes putting_room enough e in
+    pub putting_more : {y : List ℕ} → y ≡ paste out next (drop 1 entry) (length entry - 1) → Putting before at part p y (next + (length entry - 1)) after
+    unfolding for
+    putting_more {y} e =
+        let bytes = drop 1 entry in
+        let n = length entry - 1 in
+        let long : length bytes ≡ n = length-drop 1 entry in
+        let copied : Puts out next bytes y (next + n) = puts_same (take_all n bytes (omega (arith, long))) (puts_part bytes n putting_room (omega (arith, long)) e) in
         record {
-          so_far = inv.so_far ++ take bytes (drop (from + 1) part);
-          walking = subst (λ (k : ℕ). Walking part (from + k)) (sym long) (walking_turns inv.walking more);
+          so_far = inv.so_far ++ bytes;
+          whole = parts.1;
           put = puts_both inv.put copied;
           decides =
-              inv.decides
-              ∙ ap (λ (l : List (List ℕ)). inv.so_far ++ for l (drop 1)) left
-              ∙ ap (λ (l : List ℕ). inv.so_far ++ l) (piece (eqb (get_or part from 0) p) some)
-              ∙ sym (append_assoc inv.so_far (take bytes (drop (from + 1) part)) (for (rest_of part p (from + n)) (drop 1)));
-          room = omega (arith, inv.room, spent_here, copied.long);
+              inv.decides ∙ ap (λ (l : List (List ℕ)). inv.so_far ++ for l (drop 1)) more ∙ sym (append_assoc inv.so_far bytes (for (own_of p after) (drop 1)));
+          room = omega (arith, inv.room, ap length more, entry_few, copied.long);
         }
 
-  pub putting_ends : length part ≤ from → Puts before at (for (program_of part p) (drop 1)) out next
-  unfolding for
-  putting_ends h =
-      puts_same
-      (sym (inv.decides ∙ ap (λ (l : List (List ℕ)). inv.so_far ++ for l (drop 1)) (rest_ends part p from h) ∙ append-nil inv.so_far))
-      inv.put
+  pub putting_other : (get_or entry 0 0 ≡ p → ⊥) → Putting before at part p out next after
+  putting_other h =
+      let other : own_of p left ≡ own_of p after = ap (own_of p) taken ∙ own_other p entry after h in
+      record {
+        so_far = inv.so_far;
+        whole = parts.1;
+        put = inv.put;
+        decides = inv.decides ∙ ap (λ (l : List (List ℕ)). inv.so_far ++ for l (drop 1)) other;
+        room = omega (arith, inv.room, ap length other);
+      }
+
+pub putting_ends : {before : List ℕ} {at : ℕ} {part : List ℕ} {p : ℕ} {out : List ℕ} {next : ℕ} {left : List (List ℕ)}
+    → Putting before at part p out next left → left ≡ [] → Puts before at (for (program_of part p) (drop 1)) out next
+unfolding for
+putting_ends {before} {at} {part} {p} inv e =
+    puts_same
+    (sym (inv.decides ∙ ap (λ (l : List (List ℕ)). inv.so_far ++ for l (drop 1)) (ap (own_of p) e ∙ own_ends p) ∙ append-nil inv.so_far))
+    inv.put
 
 -- no entry is longer than 19 bytes without its processor number
 few_up_to : (p most : ℕ) (bytes : List ℕ)

@@ -1,164 +1,140 @@
 -- Walks over the section of instructions: how long an entry is, and what is left of the walk decides the whole.
-use Prim.Native.Nat.{ℕ, ◌+◌, ◌-◌, ◌≤◌, ◌<◌}
+use Prim.Native.Nat.{ℕ, zero, suc, ◌+◌, ◌-◌, ◌≤◌, ◌<◌, min}
 use native.Mathlib.Omega.{arith}
-use mathlib.Core.Path.{◌≡◌, refl, sym, ap, ◌∙◌, subst}
+use mathlib.Core.Path.{◌≡◌, refl, sym, ap, ap₂, ◌∙◌, subst}
 use mathlib.Core.Bool.{Bool, true, false, not, cond, ◌&&◌, and-false}
 use mathlib.Core.List.{List, [], ◌∷◌}
-use lib.ListN.{length, get_or, take, drop}
-use lib.Seq.{get_or-take, get_or-drop}
+use lib.ListN.{length, get_or, take, drop, drop_of_length-le}
+use lib.Seq.{take_all}
 use lib.Dec.{eqb, leb, ltb}
-use borrow.Author.Tests.{le-leb, lt-leb, lt-ltb, le-ltb}
+use borrow.Author.Tests.{le-leb, lt-leb, leb-true, leb-false}
 use Rattle.base.specs.Lists.{all, keep}
+use borrow.Author.Tests.{eq-eqb, ne_eqb}
+use Rattle.base.proofs.Bools.{split}
+use Rattle.base.proofs.Chains.{all_list}
+use Rattle.std.specs.List.{list_all}
 use Rattle.model.specs.Execution.{kind_of, is_fence}
 use Rattle.model.specs.Questions.{more_length, question6}
-use Rattle.model.specs.Sections.{section_entry_length, entries_of, is_whole, all_whole, question24, program_of}
-use Rattle.record_sections.proofs.Entries.{length_range, entries_at, entries_end, whole_next, Walking, walking_starts, walking_turns}
+use Rattle.model.specs.Sections.{section_entry_length, entries_up_to, entries_of, is_whole, all_whole, question24, program_of}
+use Rattle.record_sections.proofs.Entries.{length_range, entries_next, entries_at, entries_end, whole_next, Walking, walking_starts, walking_turns}
 
--- How long the entry at an index is, by its kind and size
-
-module _ (part : List ℕ) (at : ℕ) where
-  by_bytes : section_entry_length (drop at part)
-      ≡ 12 + cond (leb (get_or part (at + 1) 0) 6 && not (is_fence (kind_of (get_or part (at + 1) 0)))) (more_length (kind_of (get_or part (at + 1) 0)) (get_or part (at + 3) 0)) 0
+-- How long the entry at the front is, by its kind and size
+module _ (part : List ℕ) where
+  pub length_unknown : 6 < get_or part 1 0 → 12 ≡ section_entry_length part
   unfolding section_entry_length question6
-  by_bytes = rw (get_or-drop at part 1 0, get_or-drop at part 3 0)
+  length_unknown h = rw (lt-leb (get_or part 1 0) 6 h)
 
-  pub length_unknown : 6 < get_or part (at + 1) 0 → 12 ≡ section_entry_length (drop at part)
-  length_unknown h = sym (by_bytes ∙ rw (lt-leb (get_or part (at + 1) 0) 6 h))
+  pub length_fence : is_fence (kind_of (get_or part 1 0)) ≡ true → 12 ≡ section_entry_length part
+  unfolding section_entry_length question6
+  length_fence h = rw (h, and-false (leb (get_or part 1 0) 6))
 
-  pub length_fence : is_fence (kind_of (get_or part (at + 1) 0)) ≡ true → 12 ≡ section_entry_length (drop at part)
-  length_fence h = sym (by_bytes ∙ rw (h, and-false (leb (get_or part (at + 1) 0) 6)))
+  pub length_access : (m : ℕ) → get_or part 1 0 ≤ 6 → is_fence (kind_of (get_or part 1 0)) ≡ false
+      → m ≡ more_length (kind_of (get_or part 1 0)) (get_or part 3 0) → 12 + m ≡ section_entry_length part
+  unfolding section_entry_length question6
+  length_access m k h e = rw (le-leb (get_or part 1 0) 6 k, h) (ap (λ (n : ℕ). 12 + n) e)
 
-  pub length_access : (m : ℕ) → get_or part (at + 1) 0 ≤ 6 → is_fence (kind_of (get_or part (at + 1) 0)) ≡ false
-      → m ≡ more_length (kind_of (get_or part (at + 1) 0)) (get_or part (at + 3) 0) → 12 + m ≡ section_entry_length (drop at part)
-  length_access m k h e = sym (by_bytes ∙ rw (le-leb (get_or part (at + 1) 0) 6 k, h) (ap (λ (n : ℕ). 12 + n) (sym e)))
+  pub none_left : length part ≡ 0 → entries_of part ≡ []
+  unfolding entries_of entries_up_to
+  none_left h = go part h
+    where
+      go : (l : List ℕ) → length l ≡ 0 → entries_of l ≡ []
+      go [] h = refl
+      go (b ∷ l) h = absurd (omega arith)
 
--- The invariant of a walk that asks whether entries are whole: those that are left decide.
-pub record Asking (part : List ℕ) (at : ℕ) : Type 0 where
-  pub within : at ≤ length part
-  pub decides : all_whole part ≡ all is_whole (entries_of (drop at part))
+  -- the entry at the front, of which no more is taken than there is
+  module _ (some : 0 < length part) (n : ℕ) (is : n ≡ min (section_entry_length part) (length part)) where
+    cut : (take (section_entry_length part) part ≡ take n part) × (drop (section_entry_length part) part ≡ drop n part)
+    cut =
+        split (leb (section_entry_length part) (length part))
+        (λ h.
+        let same : section_entry_length part ≡ n = omega (arith, is, leb-true (section_entry_length part) (length part) h) in
+        (ap (λ (k : ℕ). take k part) same, ap (λ (k : ℕ). drop k part) same))
+        (λ h.
+        let past : length part < section_entry_length part = leb-false (section_entry_length part) (length part) h in
+        let all : length part ≤ n = omega (arith, is, past) in (
+          take_all (section_entry_length part) part (omega arith) ∙ sym (take_all n part all),
+          drop_of_length-le part {i = section_entry_length part} (omega arith) ∙ sym (drop_of_length-le part {i = n} all),
+        ))
 
-pub asking_starts : {part : List ℕ} → Asking part 0
-unfolding all_whole
-asking_starts {part} = record { within = omega arith; decides = refl }
+    pub entry_taken : entries_of part ≡ take n part ∷ entries_of (drop n part)
+    entry_taken = entries_next part some ∙ ap₂ (λ (e : List ℕ) (r : List ℕ). e ∷ entries_of r) cut.0 cut.1
 
-module _ {part : List ℕ} {at : ℕ} (inv : Asking part at) where
-  next_asked : at < length part → {b : Bool} → leb (section_entry_length (drop at part)) (length part - at) ≡ b
-      → all_whole part ≡ (b && all is_whole (entries_of (drop (at + section_entry_length (drop at part)) part)))
-  next_asked more e = inv.decides ∙ whole_next part at more ∙ ap (λ (t : Bool). t && all is_whole (entries_of (drop (at + section_entry_length (drop at part)) part))) e
+    pub fewer_left : length (entries_of (drop n part)) < length (entries_of part)
+    fewer_left = omega (arith, ap length entry_taken)
 
-  -- an entry whose bytes are not all there
-  pub asking_fails : at < length part → length part - at < section_entry_length (drop at part) → false ≡ all_whole part
-  asking_fails more h = sym (next_asked more (lt-leb (section_entry_length (drop at part)) (length part - at) h))
+-- there are no more entries than bytes
+pub few_entries : (part : List ℕ) → length (entries_of part) ≤ length part
+unfolding entries_of entries_up_to
+few_entries part = up_to (length part) part
+  where
+    up_to : (most : ℕ) (bytes : List ℕ) → length (entries_up_to most bytes) ≤ most
+    up_to zero bytes = omega arith
+    up_to (suc most) [] = omega arith
+    up_to (suc most) (b ∷ bytes) = omega (arith, up_to most (drop (section_entry_length (b ∷ bytes)) (b ∷ bytes)))
 
-  pub asking_turns : {n : ℕ} → n ≡ section_entry_length (drop at part) → at < length part → n ≤ length part - at → Asking part (at + n)
-  asking_turns {n} e more h =
-      subst (λ (k : ℕ). Asking part (at + k)) (sym e)
-      (record {
-        within = omega arith;
-        decides = next_asked more (le-leb (section_entry_length (drop at part)) (length part - at) (omega arith));
-      })
+-- The tests of all entries, as the definitions have them
+pub whole_law : (part : List ℕ) → list_all (λ (e : List ℕ). eqb (length e) (section_entry_length e)) (entries_of part) ≡ all_whole part
+unfolding all_whole is_whole
+whole_law part = each (entries_of part)
+  where
+    each : (l : List (List ℕ)) → list_all (λ (e : List ℕ). eqb (length e) (section_entry_length e)) l ≡ all is_whole l
+    each l = all_list is_whole l
 
-  pub asking_ends : length part ≤ at → true ≡ all_whole part
-  unfolding all
-  asking_ends h = sym (inv.decides ∙ ap (all is_whole) (entries_end part at h))
-
--- The first byte of an entry is its processor number.
-pub number_of : (part : List ℕ) (at : ℕ) → get_or (take (section_entry_length (drop at part)) (drop at part)) 0 0 ≡ get_or part at 0
-number_of part at =
-    get_or-take (section_entry_length (drop at part)) (drop at part) 0 0 (omega (arith, (length_range (drop at part)).0))
-    ∙ get_or-drop at part 0 0
-    ∙ ap (λ (k : ℕ). get_or part k 0) (let z : at + 0 ≡ at = omega arith in z)
-
--- The invariant of a walk over whole entries that asks question 24: those that are left decide.
-abbrev below_test : ℕ → List ℕ → Bool
-below_test processors x = ltb (get_or x 0 0) processors
-
-pub record Comparing (processors : ℕ) (part : List ℕ) (at : ℕ) : Type 0 where
-  pub walking : Walking part at
-  pub decides : question24 processors part ≡ all (below_test processors) (entries_of (drop at part))
-
-pub comparing_starts : {processors : ℕ} {part : List ℕ} → all_whole part ≡ true → Comparing processors part 0
+pub below_law : (processors : ℕ) (part : List ℕ) → list_all (λ (e : List ℕ). ltb (get_or e 0 0) processors) (entries_of part) ≡ question24 processors part
 unfolding question24
-comparing_starts {processors} {part} h = record { walking = walking_starts part h; decides = refl }
+below_law processors part = all_list (λ (e : List ℕ). ltb (get_or e 0 0) processors) (entries_of part)
 
-module _ {processors : ℕ} {part : List ℕ} {at : ℕ} (inv : Comparing processors part at) where
-  next_compared : at < length part → {b : Bool} → ltb (get_or part at 0) processors ≡ b
-      → question24 processors part ≡ (b && all (below_test processors) (entries_of (drop (at + section_entry_length (drop at part)) part)))
-  unfolding all
-  next_compared more e =
-      inv.decides ∙ ap (all (below_test processors)) (entries_at part at more)
-      ∙ ap (λ (t : Bool). t && all (below_test processors) (entries_of (drop (at + section_entry_length (drop at part)) part)))
-      (ap (λ (k : ℕ). ltb k processors) (number_of part at) ∙ e)
-
-  pub comparing_fails : at < length part → processors ≤ get_or part at 0 → false ≡ question24 processors part
-  comparing_fails more h = sym (next_compared more (le-ltb (get_or part at 0) processors h))
-
-  pub comparing_turns : {n : ℕ} → n ≡ section_entry_length (drop at part) → at < length part → get_or part at 0 < processors → Comparing processors part (at + n)
-  comparing_turns {n} e more h =
-      subst (λ (k : ℕ). Comparing processors part (at + k)) (sym e)
-      (record {
-        walking = walking_turns inv.walking more;
-        decides = next_compared more (lt-ltb (get_or part at 0) processors h);
-      })
-
-  pub comparing_ends : length part ≤ at → true ≡ question24 processors part
-  unfolding all
-  comparing_ends h = sym (inv.decides ∙ ap (all (below_test processors)) (entries_end part at h))
-
--- The entries of processor p from an index on
+-- The entries of processor p
 abbrev pub own : ℕ → List ℕ → Bool
 own p x = eqb (get_or x 0 0) p
 
-pub rest_of : List ℕ → ℕ → ℕ → List (List ℕ)
-rest_of part p at = keep (own p) (entries_of (drop at part))
+-- those of them among the entries that are left
+pub own_of : ℕ → List (List ℕ) → List (List ℕ)
+own_of p left = keep (own p) left
 
-pub rest_starts : (part : List ℕ) (p : ℕ) → program_of part p ≡ rest_of part p 0
-unfolding rest_of program_of
-rest_starts part p = refl
+pub own_starts : (part : List ℕ) (p : ℕ) → program_of part p ≡ own_of p (entries_of part)
+unfolding own_of program_of
+own_starts part p = refl
 
-pub rest_next : (part : List ℕ) (p at : ℕ) → at < length part
-    → rest_of part p at
-    ≡ cond (eqb (get_or part at 0) p) (take (section_entry_length (drop at part)) (drop at part) ∷ rest_of part p (at + section_entry_length (drop at part)))
-    (rest_of part p (at + section_entry_length (drop at part)))
-unfolding rest_of keep
-rest_next part p at more =
-    let n = section_entry_length (drop at part) in
-    let rest = keep (own p) (entries_of (drop (at + n) part)) in
-    ap (keep (own p)) (entries_at part at more) ∙ ap (λ (k : ℕ). cond (eqb k p) (take n (drop at part) ∷ rest) rest) (number_of part at)
+module _ (p : ℕ) (entry : List ℕ) (left : List (List ℕ)) where
+  pub own_more : get_or entry 0 0 ≡ p → own_of p (entry ∷ left) ≡ entry ∷ own_of p left
+  unfolding own_of keep
+  own_more h = rw (eq-eqb (get_or entry 0 0) p h)
 
-pub rest_ends : (part : List ℕ) (p at : ℕ) → length part ≤ at → rest_of part p at ≡ []
-unfolding rest_of keep
-rest_ends part p at h = ap (keep (own p)) (entries_end part at h)
+  pub own_other : (get_or entry 0 0 ≡ p → ⊥) → own_of p (entry ∷ left) ≡ own_of p left
+  unfolding own_of keep
+  own_other h = rw (ne_eqb (get_or entry 0 0) p h)
 
--- The invariant of a walk over whole entries that counts those of processor p.
-pub record Counting (part : List ℕ) (p : ℕ) (count at : ℕ) : Type 0 where
-  pub walking : Walking part at
-  pub few : count ≤ at
-  pub decides : length (program_of part p) ≡ count + length (rest_of part p at)
+pub own_ends : (p : ℕ) → own_of p [] ≡ []
+unfolding own_of keep
+own_ends p = refl
 
-pub counting_starts : {part : List ℕ} {p : ℕ} → all_whole part ≡ true → Counting part p 0 0
-counting_starts {part} {p} h = record { walking = walking_starts part h; few = omega arith; decides = ap length (rest_starts part p) ∙ omega arith }
+-- The invariant of a walk that counts those of processor p.
+pub record Counting (part : List ℕ) (p count : ℕ) (left : List (List ℕ)) : Type 0 where
+  pub few : count + length left ≤ length part
+  pub decides : length (program_of part p) ≡ count + length (own_of p left)
 
-pub one_at_most : (b : Bool) {n : ℕ} → n ≡ cond b 1 0 → n ≤ 1
-one_at_most true h = omega arith
-one_at_most false h = omega arith
+pub counting_starts : {part : List ℕ} {p : ℕ} {left : List (List ℕ)} → left ≡ entries_of part → Counting part p 0 left
+counting_starts {part} {p} {left} e = record {
+  few = omega (arith, few_entries part, ap length e);
+  decides = omega (arith, ap length (own_starts part p ∙ ap (own_of p) (sym e)));
+}
 
-module _ {part : List ℕ} {p count at : ℕ} (inv : Counting part p count at) where
-  pub counting_turns : {one n : ℕ} → at < length part → one ≡ cond (eqb (get_or part at 0) p) 1 0 → n ≡ section_entry_length (drop at part)
-      → Counting part p (count + one) (at + n)
-  counting_turns {one} {n} more c e =
-      subst (λ (m : ℕ). Counting part p (count + one) (at + m)) (sym e)
-      (record {
-        walking = walking_turns inv.walking more;
-        few = omega (arith, inv.few, one_at_most (eqb (get_or part at 0) p) c, (length_range (drop at part)).0);
-        decides =
-            inv.decides ∙ ap (λ (l : List (List ℕ)). count + length l) (rest_next part p at more)
-            ∙ one_more (eqb (get_or part at 0) p) (take (section_entry_length (drop at part)) (drop at part)) (rest_of part p (at + section_entry_length (drop at part))) c;
-      })
-    where
-      one_more : (b : Bool) (x : List ℕ) (xs : List (List ℕ)) → one ≡ cond b 1 0 → count + length (cond b (x ∷ xs) xs) ≡ (count + one) + length xs
-      one_more true x xs h = omega arith
-      one_more false x xs h = omega arith
+module _ {part : List ℕ} {p count : ℕ} {left after : List (List ℕ)} {entry : List ℕ} (inv : Counting part p count left) (taken : left ≡ entry ∷ after) where
+  pub counting_room : count + 1 ≤ length part
+  counting_room = omega (arith, inv.few, ap length taken)
 
-  pub counting_ends : length part ≤ at → count ≡ length (program_of part p)
-  counting_ends h = sym (inv.decides ∙ ap (λ (l : List (List ℕ)). count + length l) (rest_ends part p at h) ∙ omega arith)
+  pub counting_more : get_or entry 0 0 ≡ p → Counting part p (count + 1) after
+  counting_more h = record {
+    few = omega (arith, inv.few, ap length taken);
+    decides = omega (arith, inv.decides, ap length (ap (own_of p) taken ∙ own_more p entry after h));
+  }
+
+  pub counting_other : (get_or entry 0 0 ≡ p → ⊥) → Counting part p count after
+  counting_other h = record {
+    few = omega (arith, inv.few, ap length taken);
+    decides = omega (arith, inv.decides, ap length (ap (own_of p) taken ∙ own_other p entry after h));
+  }
+
+pub counting_ends : {part : List ℕ} {p count : ℕ} {left : List (List ℕ)} → Counting part p count left → left ≡ [] → count ≡ length (program_of part p)
+counting_ends {part} {p} inv e = omega (arith, inv.decides, ap length (ap (own_of p) e ∙ own_ends p))

@@ -1,22 +1,30 @@
 // The section of instructions, walked entry by entry from its front.
-ghost use Rattle.std.specs.Prelude.{◌≡◌, true, cond, ◌+◌, ◌*◌, ◌≤◌, length, drop};
+ghost use Rattle.std.specs.Prelude.{◌≡◌, ◌==◌, true, ◌+◌, ◌*◌, ◌≤◌, ◌<◌, length, get_or, drop, count_by};
+ghost use Rattle.std.specs.Iterator.{YieldsFirstRef, item_count};
+ghost use Rattle.std.specs.List.{list_all};
 ghost use Rattle.base.specs.Lists.{for};
-ghost use Rattle.model.specs.Sections.{section_entry_length, all_whole, question24, program_of};
+ghost use Rattle.model.specs.Sections.{section_entry_length, entries_of, all_whole, question24, program_of};
 ghost use Rattle.record_writer.specs.Puts.{Puts};
 
 use record_decoded::kind::{LAST_KIND, is_fence, kind_of};
-use record_decoded::types::{ENTRY_LENGTH, copy_bytes};
+use record_decoded::types::ENTRY_LENGTH;
 use record_programs::more_length;
 
 // An entry has a processor number before what it has in a record.
 pub const SHORTEST_ENTRY: usize = 1 + ENTRY_LENGTH;
 
-// The bytes of the entry at `at`, by its kind and size.
-fn entry_length(part: &[u8], at: usize) -> usize
-    requires { at + 12 ≤ length part.now }
-    ensures { (result ≡ section_entry_length (drop at part.now)) × (12 ≤ result) × (result ≤ 20) }
+// Byte k; 0 past the end.
+fn byte_at(bytes: &[u8], k: usize) -> u8
+    ensures { result ≡ get_or bytes.now k 0 }
 {
-    let k = part[at + 1];
+    bytes.get(k).copied().unwrap_or(0)
+}
+
+// The bytes of the entry at the front of a part, by its kind and size.
+fn entry_length(part: &[u8]) -> usize
+    ensures { (result ≡ section_entry_length part.now) × (12 ≤ result) × (result ≤ 20) }
+{
+    let k = byte_at(part, 1);
     if LAST_KIND < k {
         return SHORTEST_ENTRY;
     }
@@ -24,59 +32,62 @@ fn entry_length(part: &[u8], at: usize) -> usize
     if is_fence(kind) {
         return SHORTEST_ENTRY;
     }
-    SHORTEST_ENTRY + more_length(kind, part[at + 3])
+    SHORTEST_ENTRY + more_length(kind, byte_at(part, 3))
+}
+
+// The entries that are left. The last may be shorter than its kind and size want.
+#[derive(Drop)]
+pub struct Entries<'a> {
+    rest: &'a [u8],
+}
+
+impl<'a> Iterator for Entries<'a> {
+    type Item = &'a [u8];
+
+    ghost next_gives = { YieldsFirstRef (λ s. entries_of s.rest.now) };
+
+    ghost remaining = { item_count (λ s. entries_of s.rest.now) };
+
+    fn next(&mut self) -> Option<&'a [u8]> {
+        if self.rest.is_empty() {
+            return None;
+        }
+        let n = entry_length(self.rest).min(self.rest.len());
+        let (entry, rest) = self.rest.split_at(n);
+        self.rest = rest;
+        Some(entry)
+    }
+}
+
+fn entries_of(part: &[u8]) -> Entries<'_>
+    ensures { entries_of result.rest.now ≡ entries_of part.now }
+{
+    Entries { rest: part }
 }
 
 // Whether all entries are whole.
 pub fn all_whole(part: &[u8]) -> bool
     ensures { result ≡ all_whole part.now }
 {
-    let mut at = 0;
-    while at < part.len() {
-        if part.len() - at < SHORTEST_ENTRY {
-            return false;
-        }
-        let n = entry_length(part, at);
-        if part.len() - at < n {
-            return false;
-        }
-        at = at + n;
-    }
-    true
+    entries_of(part).all(|entry| entry.len() == entry_length(entry))
 }
 
 // Question 24.
 pub fn all_below(part: &[u8], processors: u8) -> bool
-    requires { all_whole part.now ≡ true }
     ensures { result ≡ question24 processors part.now }
 {
-    let mut at = 0;
-    while at < part.len() {
-        if processors <= part[at] {
-            return false;
-        }
-        at = at + entry_length(part, at);
-    }
-    true
-}
-
-// n where it counts, else 0.
-fn number_if(counts: bool, n: usize) -> usize
-    ensures { result ≡ cond counts n 0 }
-{
-    if counts { n } else { 0 }
+    entries_of(part).all(|entry| byte_at(entry, 0) < processors)
 }
 
 // How many entries processor p has.
 pub fn program_length(part: &[u8], p: u8) -> usize
-    requires { all_whole part.now ≡ true }
     ensures { result ≡ length (program_of part.now p) }
 {
     let mut count = 0;
-    let mut at = 0;
-    while at < part.len() {
-        count = count + number_if(part[at] == p, 1);
-        at = at + entry_length(part, at);
+    for entry in entries_of(part) {
+        if byte_at(entry, 0) == p {
+            count += 1;
+        }
     }
     count
 }
@@ -87,13 +98,12 @@ pub fn put_entries(out: &mut [u8], at: usize, part: &[u8], p: u8) -> usize
     ensures { Puts out.old at (for (program_of part.now p) (drop 1)) out.new result }
 {
     let mut next = at;
-    let mut from = 0;
-    while from < part.len() {
-        let n = entry_length(part, from);
-        let bytes = number_if(part[from] == p, n - 1);
-        copy_bytes(out, next, part, from + 1, bytes);
-        next = next + bytes;
-        from = from + n;
+    for entry in entries_of(part) {
+        if byte_at(entry, 0) == p {
+            let bytes = entry.len() - 1;
+            out[next..next + bytes].copy_from_slice(&entry[1..]);
+            next += bytes;
+        }
     }
     next
 }

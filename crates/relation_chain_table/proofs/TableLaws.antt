@@ -40,7 +40,7 @@ module _ (bytes table : List ℕ) where
   -- a record that is refused
   pub call_refused : (q : Question) → read_all bytes ≡ refuses (question_number q) → reply_of (Err q) table ≡ table_call bytes table
   unfolding table_call tabling table_reply
-  call_refused {q} h = ap (table_reply table) (after_refuses (λ d. table_marks d table) h)
+  call_refused q h = ap (table_reply table) (after_refuses (λ d. table_marks d table) h)
 
   -- a record that is accepted
   pub call_accepted : {e : model.Execution} → read_all bytes ≡ says e → table_reply table (table_marks e table) ≡ table_call bytes table

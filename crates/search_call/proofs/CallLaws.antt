@@ -23,12 +23,9 @@ use Rattle.relation_links.specs.declared.operations.Operations.{Operations}
 use Rattle.search_meaning.proofs.Meaning.{tested}
 use Rattle.model.proofs.Consistent.{keeps_shorter, keeps_empty}
 use Rattle.search_walk.specs.Walks.{Closed}
-use Rattle.search_call.specs.declared.call.SearchReply.{SearchReply}
-use Rattle.search_call.specs.declared.call.SearchAnswer.TheVariants.{Refused}
 use Rattle.search_resume.specs.declared.steps.Outcome as steps
 use Rattle.record_decoded.specs.Positions.{position_of}
 use Rattle.search_resume.specs.Replies.{outcome_of, verdict_meant}
-use Rattle.search_call.specs.Calls.{answer_meant, reply_of}
 
 module _ (buffer : List ℕ) (saved allowance : ℕ) where
   pub search_accepted : (bytes : List ℕ) (e : Execution) → read_all bytes ≡ says e → search_reply saved buffer (search_saved e buffer saved allowance) ≡ search_call bytes buffer saved allowance
@@ -38,11 +35,6 @@ module _ (buffer : List ℕ) (saved allowance : ℕ) where
   pub search_refused : (bytes : List ℕ) (q : ℕ) → read_all bytes ≡ refuses q → search_reply saved buffer (refuses q) ≡ search_call bytes buffer saved allowance
   unfolding search_call searching
   search_refused bytes q h = ap (search_reply saved buffer) (after_refuses (λ d. search_saved d buffer saved allowance) h)
-
-  -- a refusal's reply
-  pub refused_reply : (r : SearchReply) (q : ℕ) → r.answer ≡ Refused q → r.steps ≡ 0 → r.length ≡ saved → reply_of r buffer ≡ search_reply saved buffer (refuses q)
-  unfolding search_reply
-  refused_reply r q a s l = cc (ap answer_meant a, s, l)
 
   -- the questions of the buffer and the saved position
   module _ (e : Execution) (n : ℕ) (is : n ≡ operations e) where
@@ -87,22 +79,21 @@ searched_from e position allowance k = asked_yes 21 _ k
 pub consistent_closed : (e : Execution) → Closed (keeps (rules e))
 consistent_closed e xs x h = keeps_shorter xs x (rules e) h
 
--- a reply with an outcome's parts, and its position at the front of the buffer
-reply_is : (buffer after : List ℕ) (saved : ℕ) (o : Outcome) (r : SearchReply) → answer_meant r.answer ≡ says o.verdict → r.steps ≡ o.steps → r.length ≡ length o.position
-    → after ≡ o.position ++ drop (length o.position) buffer → reply_of r after ≡ search_reply saved buffer (says o)
-unfolding search_reply
-reply_is buffer after saved o r a s l e = cc (a, s, l, e)
-
--- the outcome of the search, written
+-- the outcome of the search, written: a reply with its parts, and its position at the front of the buffer
 pub outcome_reply : (e : Execution) (buffer after : List ℕ) (saved allowance n : ℕ) → n ≡ operations e → (given : List ℕ) → given ≡ take saved buffer
     → (o : steps.Outcome) → outcome_of o ≡ search_from n (keeps (rules e)) given allowance → o.position.length ≤ length o.position.entries
     → after ≡ paste buffer 0 o.position.entries o.position.length
-    → (r : SearchReply) → answer_meant r.answer ≡ says (verdict_meant o.verdict) → r.steps ≡ o.steps → r.length ≡ o.position.length
-    → reply_of r after ≡ search_reply saved buffer (says (search_from (operations e) (keeps (rules e)) (take saved buffer) allowance))
-outcome_reply e buffer after saved allowance n is given at o comes there written r a s l =
+    → record { answer = says (verdict_meant o.verdict); steps = o.steps; length = o.position.length; buffer = after }
+    ≡ search_reply saved buffer (says (search_from (operations e) (keeps (rules e)) (take saved buffer) allowance))
+unfolding search_reply
+outcome_reply e buffer after saved allowance n is given at o comes there written =
     let size : length (position_of o.position) ≡ o.position.length = length-take-le o.position.length o.position.entries there in
-    reply_is buffer after saved (outcome_of o) r a s (l ∙ sym size)
-    (written ∙ ap (λ (k : ℕ). position_of o.position ++ drop k buffer) (let z : 0 + o.position.length ≡ length (position_of o.position) = omega (arith, size) in z))
+    (λ i. record {
+      answer = says (verdict_meant o.verdict);
+      steps = o.steps;
+      length = sym size i;
+      buffer = (written ∙ ap (λ (k : ℕ). position_of o.position ++ drop k buffer) (let z : 0 + o.position.length ≡ length (position_of o.position) = omega (arith, size) in z)) i;
+    })
     ∙ ap (λ (u : Outcome). search_reply saved buffer (says u)) (comes ∙ ap₂ (λ (k : ℕ) (g : List ℕ). search_from k (keeps (rules e)) g allowance) is at)
 
 -- the rows of an accepted execution test what is consistent

@@ -1,18 +1,13 @@
 -- The search's reply as the model's.
-use Rattle.std.specs.Prelude.{ℕ, List}
-use Rattle.model.specs.Search as model
+use Rattle.std.specs.Prelude.{ℕ, List, Result, Ok, Err}
 use Rattle.model.specs.Calls as calls
 use Rattle.model.specs.Calls.{says, refuses}
-use Rattle.search_call.specs.declared.call.SearchAnswer.{SearchAnswer}
-use Rattle.search_call.specs.declared.call.SearchAnswer.TheVariants.{Unfinished, Allowed, Forbidden, Refused}
+use Rattle.record_decoded.specs.declared.question.Question.{Question}
+use Rattle.record_decoded.specs.Refusals.{question_number}
+use Rattle.search_resume.specs.Replies.{verdict_meant}
 use Rattle.search_call.specs.declared.call.SearchReply.{SearchReply}
 
-abbrev pub answer_meant : SearchAnswer → calls.Answer model.Verdict
-answer_meant Unfinished = says model.unfinished
-answer_meant Allowed = says model.allowed
-answer_meant Forbidden = says model.forbidden
-answer_meant (Refused q) = refuses q
-
--- the reply, and the buffer as it is left
-abbrev pub reply_of : SearchReply → List ℕ → calls.SearchReply
-reply_of r buffer = record { answer = answer_meant r.answer; steps = r.steps; length = r.length; buffer = buffer }
+-- the reply, and the buffer as it is left; a refusal makes no step and has the saved length
+abbrev pub reply_of : ℕ → Result SearchReply Question → List ℕ → calls.SearchReply
+reply_of saved (Ok r) buffer = record { answer = says (verdict_meant r.verdict); steps = r.steps; length = r.length; buffer = buffer }
+reply_of saved (Err q) buffer = record { answer = refuses (question_number q); steps = 0; length = saved; buffer = buffer }

@@ -2,16 +2,15 @@
 ghost use Rattle.std.specs.Prelude.{◌≡◌, true, ◌≤◌, length, take, []};
 ghost use Rattle.base.specs.Lists.{distinct};
 ghost use Rattle.relation_links.specs.Compiled.{Compiled};
-ghost use Rattle.model.specs.Calls.{says, search_position, search_saved, search_reply, search_call};
+ghost use Rattle.model.specs.Calls.{search_position, search_saved, search_reply, search_call};
 ghost use Rattle.model.specs.Accepted.{Accepted};
 ghost use Rattle.record_decoded.specs.Decoded.{execution_of};
-ghost use Rattle.search_call.specs.Calls.{answer_meant, reply_of};
-ghost use Rattle.search_resume.specs.Replies.{verdict_meant};
-ghost use Rattle.search_call.specs.declared.call.SearchAnswer.TheVariants.{Refused};
+ghost use Rattle.search_call.specs.Calls.{reply_of};
 
 use record_decoded::position::{saved_position, write_position};
+use record_decoded::question::Question;
 use record_decoded::types::{Execution, MOST_INSTRUCTIONS};
-use record_reader::reader::{Answer, read};
+use record_reader::reader::read;
 use relation_links::operations::{Operations, operations_of};
 use relation_marks::between::all_marks;
 use relation_places::place_all;
@@ -20,42 +19,12 @@ use search_enabled::affected_by;
 use search_resume::steps::{Verdict, search_from};
 use search_rows::table::put_rows;
 
-#[derive(Clone, Copy)]
-pub enum SearchAnswer {
-    Unfinished,
-    Allowed,
-    Forbidden,
-    Refused(u8),
-}
-
-// The answer, the steps made, and the length of the position that is left at the front of the buffer.
-#[derive(Clone, Copy)]
+// The verdict, the steps made, and the length of the position that is left at the front of the buffer.
+#[derive(Clone, Copy, Debug, PartialEq, Eq)]
 pub struct SearchReply {
-    pub answer: SearchAnswer,
+    pub verdict: Verdict,
     pub steps: u32,
     pub length: usize,
-}
-
-// A refusal: no step, and the saved length as it came.
-fn refused(question: u8, saved: usize) -> SearchReply
-    ensures { (result.answer ≡ Refused question) × (result.steps ≡ 0) × (result.length ≡ saved) }
-{
-    SearchReply {
-        answer: SearchAnswer::Refused(question),
-        steps: 0,
-        length: saved,
-    }
-}
-
-// The answer that a verdict gives.
-fn answer_of(verdict: Verdict) -> SearchAnswer
-    ensures { answer_meant result ≡ says (verdict_meant verdict) }
-{
-    match verdict {
-        Verdict::Unfinished => SearchAnswer::Unfinished,
-        Verdict::Allowed => SearchAnswer::Allowed,
-        Verdict::Forbidden => SearchAnswer::Forbidden,
-    }
 }
 
 // The search from a saved position of different operations: question 21, then the steps.
@@ -67,10 +36,10 @@ fn search_on(
     buffer: &mut [u8],
     saved: usize,
     allowance: u32,
-) -> SearchReply
+) -> Result<SearchReply, Question>
     requires accepted { Accepted (execution_of bytes.now x) × Compiled x t marks.now }
     requires saved { (saved ≤ t.count) × (t.count ≤ length buffer.old) × (distinct t.count [] (take saved buffer.old) ≡ true) }
-    ensures { reply_of result buffer.new ≡ search_reply saved buffer.old (search_position (execution_of bytes.now x) (take saved buffer.old) allowance) }
+    ensures { reply_of saved result buffer.new ≡ search_reply saved buffer.old (search_position (execution_of bytes.now x) (take saved buffer.old) allowance) }
 {
     let n = t.count;
     let mut rows = [0u64; TABLE];
@@ -78,14 +47,14 @@ fn search_on(
     let given = saved_position(buffer, saved);
     let affected = affected_by(n, &rows);
     let Some(outcome) = search_from(n, given, allowance, &rows, &affected) else {
-        return refused(21, saved);
+        return Err(Question::SavedPosition);
     };
     write_position(buffer, outcome.position);
-    SearchReply {
-        answer: answer_of(outcome.verdict),
+    Ok(SearchReply {
+        verdict: outcome.verdict,
         steps: outcome.steps,
         length: outcome.position.length,
-    }
+    })
 }
 
 // The search of an accepted execution: questions 18 to 21, then the steps.
@@ -95,34 +64,34 @@ fn search_execution(
     buffer: &mut [u8],
     saved: usize,
     allowance: u32,
-) -> SearchReply
+) -> Result<SearchReply, Question>
     requires { Accepted (execution_of bytes.now x) }
-    ensures { reply_of result buffer.new ≡ search_reply saved buffer.old (search_saved (execution_of bytes.now x) buffer.old saved allowance) }
+    ensures { reply_of saved result buffer.new ≡ search_reply saved buffer.old (search_saved (execution_of bytes.now x) buffer.old saved allowance) }
 {
     let t = operations_of(x.instructions, x.processors);
     let n = t.count;
     if buffer.len() < n {
-        return refused(18, saved);
+        return Err(Question::BufferLength);
     }
     if n < saved {
-        return refused(19, saved);
+        return Err(Question::SavedLength);
     }
-    let placing = place_all(&buffer[..saved], n);
-    if !placing.distinct {
-        return refused(20, saved);
+    if place_all(&buffer[..saved], n).is_none() {
+        return Err(Question::SavedEntries);
     }
     let marks = all_marks(x);
     search_on(bytes, x, t, &marks, buffer, saved, allowance)
 }
 
 // Searches on from the position of the first `saved` entries of the buffer, with at most `allowance` steps.
-pub fn search(bytes: &[u8], buffer: &mut [u8], saved: usize, allowance: u32) -> SearchReply
-    ensures { reply_of result buffer.new ≡ search_call bytes.now buffer.old saved allowance }
+pub fn search(
+    bytes: &[u8],
+    buffer: &mut [u8],
+    saved: usize,
+    allowance: u32,
+) -> Result<SearchReply, Question>
+    ensures { reply_of saved result buffer.new ≡ search_call bytes.now buffer.old saved allowance }
 {
-    let reading = read(bytes);
-    let answer = reading.answer;
-    match answer {
-        Answer::Accepted => search_execution(bytes, reading.execution, buffer, saved, allowance),
-        Answer::Refused(q) => refused(q, saved),
-    }
+    let x = read(bytes)?;
+    search_execution(bytes, x, buffer, saved, allowance)
 }

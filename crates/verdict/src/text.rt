@@ -19,8 +19,8 @@ pub fn write_word(out: &mut [u8], at: usize, word: &[u8]) -> usize
     ensures { Appends out.old at word.now out.new result }
 {
     let mut next = at;
-    for i in 0..word.len() {
-        next = write_byte(out, next, word[i]);
+    for &byte in word {
+        next = write_byte(out, next, byte);
     }
     next
 }

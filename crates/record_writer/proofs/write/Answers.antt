@@ -14,7 +14,7 @@ returns-then-lines-ne0 c =
     let a = c.args in
     let s = sections_from a.processors a.lines.now a.instructions.now a.pairs.now in
     elim c.then-lines-ne0.branch [
-      then-lines-ne0-via-then-lines-ne0 w ↦ call_23 s a.buffer.now (lines_cut_off s (search rules))
+      | then-lines-ne0-via-then-lines-ne0 w ↦ call_23 s a.buffer.now (lines_cut_off s (search rules))
       | then-lines-ne0-via-else-lines-ne0+then-not-all_whole w ↦ call_23 s a.buffer.now (instructions_cut_off s (search rules))
       | then-lines-ne0-via-else-lines-ne0+else-not-all_whole+then-pairs-ne0 w ↦ call_23 s a.buffer.now (pairs_cut_off s (search rules))
     ]

@@ -8,9 +8,6 @@ use Rattle.record_writer.proofs.compose.put_programs.Goals as goal
 pub loop-p-init : goal.loop-p-init
 loop-p-init c = programs_start c.requires.0 c.requires.1
 
-pub program_length-n-requires : goal.program_length-n-requires
-program_length-n-requires c = c.requires.3
-
 pub overflow_sub-count : goal.overflow_sub-count
 overflow_sub-count c = omega (arith, c.loop-p.invariant.few)
 

@@ -1,26 +1,19 @@
--- Each turn compares one processor number; the entries that are left decide the whole.
-use native.Mathlib.Omega.{arith}
-use Rattle.record_sections.proofs.Entries.{walking_there, walking_least}
-use Rattle.record_writer.proofs.WalkLaws.{comparing_starts, comparing_fails, comparing_turns, comparing_ends}
+-- Every entry is asked.
+use Prim.Native.Nat.{ℕ}
+use mathlib.Core.Path.{refl, ◌∙◌}
+use mathlib.Core.List.{List}
+use lib.ListN.{get_or}
+use lib.Dec.{ltb}
+use borrow.Author.Tests.{tests}
+use Rattle.std.proofs.Common.{rules}
+use Rattle.std.proofs.lemmas.Iterator.Consumers.{YieldsList-from_first}
+use Rattle.std.proofs.lemmas.Iterator.Search.{all_from_yields_List}
+use Rattle.model.specs.Sections.{entries_of}
+use Rattle.record_writer.proofs.WalkLaws.{below_law}
 use Rattle.record_writer.proofs.entries.all_below.Goals as goal
 
-pub loop-at-init : goal.loop-at-init
-loop-at-init c = comparing_starts c.requires
-
-pub returns-then-processors-part : goal.returns-then-processors-part
-returns-then-processors-part c = comparing_fails c.loop-at.invariant c.loop-at-test.true c.if-processors-part.true
-
-pub entry_length-at-requires : goal.entry_length-at-requires
-entry_length-at-requires c = walking_least c.loop-at.invariant.walking c.loop-at-test.true
-
-pub overflow_add-at : goal.overflow_add-at
-overflow_add-at c = omega (arith, c.entry_length-at.ensures.0, walking_there c.loop-at.invariant.walking c.loop-at-test.true)
-
-pub loop-at-smaller : goal.loop-at-smaller
-loop-at-smaller c = omega (arith, c.entry_length-at.ensures.1)
-
-pub loop-at-preserved : goal.loop-at-preserved
-loop-at-preserved c = comparing_turns c.loop-at.invariant c.entry_length-at.ensures.0 c.loop-at-test.true c.if-processors-part.false
-
 pub returns : goal.returns
-returns c = comparing_ends c.loop-at.invariant c.loop-at-test.false
+returns c =
+    all_from_yields_List (λ (e : List ℕ). ltb (get_or e 0 0) c.args.processors) c.all.new.self _ c.all.result c.all.ensures.ran
+    (YieldsList-from_first (λ x. x.now) (λ s. entries_of s.rest.now) {s = c.entries_of.result} _ c.entries_of.ensures) (λ x b q k. search (rules, tests))
+    ∙ below_law c.args.processors c.args.part.now

@@ -1,11 +1,9 @@
--- Each turn counts one entry where it is of processor p; the count and what is left make the whole.
-use Prim.Native.Nat.{◌-◌}
-use lib.ListN.{length}
+-- Those counted, and those among the entries that are left, are all.
+use Rattle.model.specs.Sections.{entries_of}
 use Rattle.record_writer.proofs.WalkLaws.{Counting}
 use Rattle.record_writer.proofs.entries.program_length.Given as goal
 
-abbrev pub invariant-loop-at : goal.invariant-loop-at
-invariant-loop-at l = Counting l.part l.p l.count l.at
-
-abbrev pub decreases-loop-at : goal.decreases-loop-at
-decreases-loop-at l = length l.part - l.at
+abbrev pub invariant-loop-entry : goal.invariant-loop-entry
+invariant-loop-entry l =
+    goal.iterator-loop-entry.can_next l.entry-iterator × goal.iterator-loop-entry.is_finite l.entry-iterator
+    × Counting l.part l.p l.count (entries_of l.entry-iterator.rest.now)

@@ -1,54 +1,48 @@
--- Each turn puts one entry where it is of processor p, else nothing; what is put and what is left make the whole.
+-- Each turn puts one entry where it is the processor's.
+use Prim.Native.Nat.{◌-◌}
 use native.Mathlib.Omega.{arith}
-use Rattle.record_sections.proofs.Entries.{walking_there, walking_least}
-use Rattle.record_writer.proofs.EntryLaws.{putting_starts, putting_room, putting_there, putting_turns, putting_ends}
+use mathlib.Core.Path.{◌≡◌}
+use lib.ListN.{length, drop, length-drop}
+use Rattle.std.proofs.Common.{rules}
+use Rattle.std.proofs.lemmas.Slice.{put_mid-paste}
+use Rattle.base.proofs.Copies.{rest}
+use Rattle.record_writer.proofs.EntryLaws.{putting_starts, entry_some, putting_room, putting_more, putting_other, putting_ends}
 use Rattle.record_writer.proofs.entries.put_entries.Goals as goal
 
-pub loop-from-init : goal.loop-from-init
-loop-from-init c = putting_starts c.requires.0 c.requires.1
+pub loop-entry-init : goal.loop-entry-init
+loop-entry-init c = (tt, tt, putting_starts (search rules) c.requires.0 c.requires.1)
 
-pub entry_length-n-requires : goal.entry_length-n-requires
-entry_length-n-requires c = walking_least c.loop-from.invariant.walking c.loop-from-test.true
+pub overflow_sub-bytes : goal.overflow_sub-bytes
+overflow_sub-bytes c = omega (arith, entry_some c.loop-entry.invariant.2 c.in-Some.ensures.steps)
 
-pub overflow_sub-n : goal.overflow_sub-n
-overflow_sub-n c = omega (arith, c.entry_length-n.ensures.1)
+pub slice_bounds-copy_from_slice-end : goal.slice_bounds-copy_from_slice-end
+slice_bounds-copy_from_slice-end c =
+    let room = putting_room c.loop-entry.invariant.2 c.in-Some.ensures.steps (search rules) in
+    search rules
 
-pub overflow_add-from : goal.overflow_add-from
-overflow_add-from c = omega arith
+pub slice_bounds-copy_from_slice-count-then-byte_at-p : goal.slice_bounds-copy_from_slice-count-then-byte_at-p
+slice_bounds-copy_from_slice-count-then-byte_at-p c = omega (arith, entry_some c.loop-entry.invariant.2 c.in-Some.ensures.steps)
 
-pub copy_bytes-requires : goal.copy_bytes-requires
-copy_bytes-requires c =
-    let inv = c.loop-from.invariant in
-    let more = c.loop-from-test.true in
-    let long = c.entry_length-n.ensures.0 in
-    let some = c.number_if-bytes.ensures in
-    (putting_room inv more long some, putting_there inv more long some)
+pub slice_bounds-copy_from_slice-start-then-byte_at-p : goal.slice_bounds-copy_from_slice-start-then-byte_at-p
+slice_bounds-copy_from_slice-start-then-byte_at-p c =
+    let some = entry_some c.loop-entry.invariant.2 c.in-Some.ensures.steps in
+    search rules
 
-pub overflow_add-next : goal.overflow_add-next
-overflow_add-next c =
-    let inv = c.loop-from.invariant in
-    let more = c.loop-from-test.true in
-    let long = c.entry_length-n.ensures.0 in
-    let some = c.number_if-bytes.ensures in
-    omega (arith, putting_room inv more long some)
+pub loop-entry-preserved-then-byte_at-p : goal.loop-entry-preserved-then-byte_at-p
+loop-entry-preserved-then-byte_at-p c =
+    let inv = c.loop-entry.invariant.2 in
+    let taken = c.in-Some.ensures.steps in
+    let entry = c.in-Some.entry.now in
+    let behind = rest 1 entry in
+    let bytes : c.copy_from_slice.new.self ≡ drop 1 entry = search rules in (
+      tt,
+      tt,
+      putting_more inv taken (search rules)
+          (put_mid-paste c.loop-entry.next _ c.loop-entry.out c.copy_from_slice.new.self (drop 1 entry) (length entry - 1) bytes (omega arith) (omega (arith, length-drop 1 entry))),
+    )
 
-pub overflow_add-from-in-loop-from : goal.overflow_add-from-in-loop-from
-overflow_add-from-in-loop-from c =
-    omega (arith, c.entry_length-n.ensures.0, walking_there c.loop-from.invariant.walking c.loop-from-test.true)
-
-pub loop-from-smaller : goal.loop-from-smaller
-loop-from-smaller c = omega (arith, c.entry_length-n.ensures.1)
-
-pub loop-from-preserved : goal.loop-from-preserved
-loop-from-preserved c =
-    let inv = c.loop-from.invariant in
-    let more = c.loop-from-test.true in
-    let long = c.entry_length-n.ensures.0 in
-    let some = c.number_if-bytes.ensures in
-    putting_turns inv more long some c.copy_bytes.ensures
-
-pub shape_of-out : goal.shape_of-out
-shape_of-out c = c.loop-from.invariant.put.long
+pub loop-entry-preserved : goal.loop-entry-preserved
+loop-entry-preserved c = (tt, tt, putting_other c.loop-entry.invariant.2 c.in-Some.ensures.steps (search rules))
 
 pub returns : goal.returns
-returns c = putting_ends c.loop-from.invariant c.loop-from-test.false
+returns c = putting_ends c.loop-entry.invariant.2 c.in-None.ensures.steps.0

@@ -1,13 +1,16 @@
 -- Each way out: questions 18 to 20, and what follows.
-use borrow.Author.Tests.{not-true, not-false}
 use native.Mathlib.Omega.{arith}
-use mathlib.Core.Path.{sym, ap, ◌∙◌}
-use lib.Seq.{length-take-le}
+use mathlib.Core.Path.{◌≡◌, ap, ◌∙◌}
+use mathlib.Core.Bool.{true, false}
+use mathlib.Core.List.{[]}
+use lib.ListN.{take}
+use Rattle.std.proofs.Common.{rules}
+use Rattle.base.specs.Lists.{distinct}
 use Rattle.model.specs.Calls.{search_reply}
 use Rattle.record_decoded.specs.Decoded.{execution_of}
 use Rattle.record_decoded.proofs.Counts.{count_is}
 use Rattle.relation_links.proofs.CompiledLaws.{few_processors, few_lines, few_instructions, few_pairs, few_operations, consecutive_here, compiled}
-use Rattle.search_call.proofs.CallLaws.{refused_reply, searched_18, searched_19, searched_20, searched_on}
+use Rattle.search_call.proofs.CallLaws.{searched_18, searched_19, searched_20, searched_on}
 use Rattle.search_call.proofs.call.search_execution.Goals as goal
 
 pub operations_of-t-requires : goal.operations_of-t-requires
@@ -21,32 +24,27 @@ operations_of-t-requires c =
     }
 
 pub returns-then-buffer-n : goal.returns-then-buffer-n
+unfolding search_reply
 returns-then-buffer-n c =
     let a = c.args in
-    let r = c.refused.ensures in
-    refused_reply a.buffer.now a.saved a.allowance c.refused.result 18 r.0 r.1 r.2
-    ∙ ap (search_reply a.saved a.buffer.now) (searched_18 a.buffer.now a.saved a.allowance (execution_of a.bytes.now a.x) _ (count_is a.bytes.now a.x _ c.operations_of-t.ensures.counts) c.if-buffer-n.true)
+    ap (search_reply a.saved a.buffer.now) (searched_18 a.buffer.now a.saved a.allowance (execution_of a.bytes.now a.x) _ (count_is a.bytes.now a.x _ c.operations_of-t.ensures.counts) c.if-buffer-n.true)
 
 pub returns-then-n-saved : goal.returns-then-n-saved
+unfolding search_reply
 returns-then-n-saved c =
     let a = c.args in
-    let r = c.refused-then-n-saved.ensures in
-    refused_reply a.buffer.now a.saved a.allowance c.refused-then-n-saved.result 19 r.0 r.1 r.2
-    ∙ ap (search_reply a.saved a.buffer.now) (searched_19 a.buffer.now a.saved a.allowance (execution_of a.bytes.now a.x) _ (count_is a.bytes.now a.x _ c.operations_of-t.ensures.counts) c.if-buffer-n.false c.if-n-saved.true)
+    ap (search_reply a.saved a.buffer.now) (searched_19 a.buffer.now a.saved a.allowance (execution_of a.bytes.now a.x) _ (count_is a.bytes.now a.x _ c.operations_of-t.ensures.counts) c.if-buffer-n.false c.if-n-saved.true)
 
-pub slice_bounds-place_all-end-2 : goal.slice_bounds-place_all-end-2
-slice_bounds-place_all-end-2 c = sym (length-take-le c.args.saved c.args.buffer.now (omega (arith, c.if-n-saved.false, c.if-buffer-n.false)))
+pub place_all-requires : goal.place_all-requires
+place_all-requires c = omega (arith, c.operations_of-t.ensures.counts, few_operations c.args.bytes.now c.args.x c.requires)
 
-pub place_all-placing-requires : goal.place_all-placing-requires
-place_all-placing-requires c = omega (arith, c.operations_of-t.ensures.counts, few_operations c.args.bytes.now c.args.x c.requires)
-
-pub returns-then-not-placing : goal.returns-then-not-placing
-returns-then-not-placing c =
+pub returns-then-is_none : goal.returns-then-is_none
+unfolding search_reply
+returns-then-is_none c =
     let a = c.args in
-    let r = c.refused-then-not-placing.ensures in
-    refused_reply a.buffer.now a.saved a.allowance c.refused-then-not-placing.result 20 r.0 r.1 r.2
-    ∙ ap (search_reply a.saved a.buffer.now) (searched_20 a.buffer.now a.saved a.allowance (execution_of a.bytes.now a.x) _ (count_is a.bytes.now a.x _ c.operations_of-t.ensures.counts) c.if-buffer-n.false c.if-n-saved.false
-    (sym c.place_all-placing.ensures.told ∙ not-true _ c.if-not-placing.true))
+    let n = c.operations_of-t.result.count in
+    let other : distinct n [] (take a.saved a.buffer.now) ≡ false = search rules in
+    ap (search_reply a.saved a.buffer.now) (searched_20 a.buffer.now a.saved a.allowance (execution_of a.bytes.now a.x) _ (count_is a.bytes.now a.x _ c.operations_of-t.ensures.counts) c.if-buffer-n.false c.if-n-saved.false other)
 
 pub all_marks-marks-requires : goal.all_marks-marks-requires
 all_marks-marks-requires c =
@@ -58,14 +56,18 @@ all_marks-marks-requires c =
 pub search_on-requires : goal.search_on-requires
 search_on-requires c =
     let a = c.args in
-    let t = c.operations_of-t.ensures in record {
+    let t = c.operations_of-t.ensures in
+    let n = c.operations_of-t.result.count in
+    let different : distinct n [] (take a.saved a.buffer.now) ≡ true = search rules in
+    record {
       accepted = (c.requires, λ others. compiled others a.x t (c.all_marks-marks.ensures others));
-      saved = (c.if-n-saved.false, c.if-buffer-n.false, sym c.place_all-placing.ensures.told ∙ not-false _ c.if-not-placing.false);
+      saved = (c.if-n-saved.false, c.if-buffer-n.false, different);
     }
 
 pub returns : goal.returns
 returns c =
     let a = c.args in
+    let n = c.operations_of-t.result.count in
+    let different : distinct n [] (take a.saved a.buffer.now) ≡ true = search rules in
     c.search_on.ensures
-    ∙ ap (search_reply a.saved a.buffer.now) (searched_on a.buffer.now a.saved a.allowance (execution_of a.bytes.now a.x) _ (count_is a.bytes.now a.x _ c.operations_of-t.ensures.counts) c.if-buffer-n.false c.if-n-saved.false
-    (sym c.place_all-placing.ensures.told ∙ not-false _ c.if-not-placing.false))
+    ∙ ap (search_reply a.saved a.buffer.now) (searched_on a.buffer.now a.saved a.allowance (execution_of a.bytes.now a.x) _ (count_is a.bytes.now a.x _ c.operations_of-t.ensures.counts) c.if-buffer-n.false c.if-n-saved.false different)

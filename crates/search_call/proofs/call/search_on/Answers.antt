@@ -10,7 +10,7 @@ use Rattle.model.specs.Rules.{rules, keeps}
 use Rattle.model.specs.Calls.{search_reply}
 use Rattle.record_decoded.specs.Decoded.{execution_of}
 use Rattle.record_decoded.specs.Positions.{position_of}
-use Rattle.search_call.proofs.CallLaws.{consistent_closed, empty_keeps, outcome_reply, refused_reply, searched_21, searched_from, tested_keeps, keeps_is}
+use Rattle.search_call.proofs.CallLaws.{consistent_closed, empty_keeps, outcome_reply, searched_21, searched_from, tested_keeps, keeps_is}
 use Rattle.search_call.proofs.call.search_on.Goals as goal
 
 pub put_rows-requires : goal.put_rows-requires
@@ -42,14 +42,13 @@ search_from-requires c =
     )
 
 pub returns-in_default : goal.returns-in_default
+unfolding search_reply
 returns-in_default c =
     let a = c.args in
     let pre = c.requires in
     let compiled = pre.accepted.1 c.args.bytes.now in
     let e = execution_of a.bytes.now a.x in
-    let r = c.refused.ensures in
-    refused_reply a.buffer.now a.saved a.allowance c.refused.result 21 r.0 r.1 r.2
-    ∙ ap (search_reply a.saved a.buffer.now) (searched_21 e (take a.saved a.buffer.now) a.allowance
+    ap (search_reply a.saved a.buffer.now) (searched_21 e (take a.saved a.buffer.now) a.allowance
     (keeps_is e (take a.saved a.buffer.now) ∙ ap (keeps (rules e)) (sym c.saved_position-given.ensures.0)
     ∙ c.in_default.ensures (keeps (rules e)) (tested_keeps c.put_rows.ensures pre.accepted.0 a.t.count compiled.tabled.counts) (consistent_closed e) (empty_keeps e)))
 
@@ -76,5 +75,4 @@ returns c =
     outcome_reply e a.buffer.now _ a.saved a.allowance a.t.count count (position_of c.saved_position-given.result) p.0 c.in-Some.outcome
     (d.comes (keeps (rules e)) table (consistent_closed e) passes)
     (omega (arith, d.bounded.short, d.bounded.whole, count, pre.accepted.0.operations_few)) c.write_position.ensures
-    (record { answer = c.answer_of.result; steps = c.in-Some.outcome.steps; length = c.in-Some.outcome.position.length }) c.answer_of.ensures refl refl
     ∙ ap (search_reply a.saved a.buffer.now) (searched_from e (take a.saved a.buffer.now) a.allowance (keeps_is e (take a.saved a.buffer.now) ∙ ap (keeps (rules e)) (sym p.0) ∙ passes))
