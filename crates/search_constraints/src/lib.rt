@@ -18,7 +18,7 @@ use record_decoded::kind::{
 use record_decoded::types::{InstructionNo, MOST_INSTRUCTIONS, OperationNo, wide, wide16};
 use relation_links::link::is_linked;
 use relation_marks::table::{
-    ATOMIC, BYPASS, CONFLICT, FENCE, LINK_MARKS, RELEASE, REMOTE_LINK_MARKS, SAME, both, has_mark,
+    ATOMIC, BYPASS, CONFLICT, FENCE, LINK_MARKS, RELEASE, REMOTE_LINK_MARKS, SAME, has_mark,
     overlaps,
 };
 use search_sets::Set;
@@ -58,13 +58,13 @@ fn with_remotes(
     }
     let to = role - ROLE_RV;
     let own = wide(processor);
-    let to_other = both(has_mark(marks, SAME), to != processor);
+    let to_other = has_mark(marks, SAME) && to != processor;
     let own_rv = number_of(first, kind, Role::RV(own));
-    let by_own = set.insert_if(own_rv.0, both(to_other, own < processors));
+    let by_own = set.insert_if(own_rv.0, to_other && own < processors);
     let same = wide(to);
     let same_rv = number_of(first, kind, Role::RV(same));
     let released = has_mark(marks, RELEASE);
-    by_own.insert_if(same_rv.0, both(released, same < processors))
+    by_own.insert_if(same_rv.0, released && same < processors)
 }
 
 // Whether no operation is linked to one with a role, by the marks of their instructions.
@@ -218,7 +218,7 @@ pub fn awaited_at<'a>(
 fn is_own_store(kind: Kind, processor: u8, own: u8, shares: bool) -> bool
     ensures { result ≡ (is_store (meant kind) && (eqb processor own && shares)) }
 {
-    both(is_store(kind), both(processor == own, shares))
+    is_store(kind) && processor == own && shares
 }
 
 // The own RVs of the stores of instruction w's processor to some of its bytes, for an R; for another role none.

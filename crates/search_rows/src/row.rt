@@ -17,7 +17,6 @@ use record_decoded::types::{
     Execution, InstructionNo, MOST_INSTRUCTIONS, MOST_LINES, OperationNo, wide, wide16,
 };
 use relation_links::operations::Operations;
-use relation_marks::table::both;
 use search_admit::{ROW, WORDS};
 use search_constraints::{awaited_at, bypasses_at, partners_at, preds_at};
 
@@ -73,7 +72,7 @@ fn read_or_own(writing: bool, kind: Kind, first: OperationNo, o: OperationNo) ->
     requires { first.0 < 65536 }
     ensures { result.0 ≡ cond (writing && is_semaphore (meant kind)) (number_from first.0 (meant kind) R) o.0 }
 {
-    if both(writing, is_semaphore(kind)) {
+    if writing && is_semaphore(kind) {
         number_of(first, kind, Role::R)
     } else {
         o

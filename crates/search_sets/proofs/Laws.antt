@@ -1,20 +1,20 @@
 -- Laws of sets of two words.
 use mathlib.Core.Path.{◌≡◌, refl, sym, ap, ap₂, ◌∙◌}
-use mathlib.Core.Bool.{Bool, true, false, not, ◌||◌, ◌&&◌, false≢true, or-false, cond}
+use mathlib.Core.Bool.{Bool, true, false, not, ◌||◌, ◌&&◌, false≢true, or-false, and-true, cond}
 use mathlib.Core.Logic.{◌⊎◌, inl, inr, ⊎_elim}
 use Prim.Native.Nat.{ℕ, zero, suc, ◌+◌, ◌-◌, ◌*◌, ◌/◌, ◌%◌, ◌^◌, ◌<◌, ◌≤◌}
 use native.Mathlib.Nat.{one-mul, div-one, div-eq_of_lt, pow-suc, le_of_suc-le-suc, lt_of_lt_of_le, lt_of_le_of_lt}
 use native.Mathlib.Omega.{arith}
 use borrow.Author.Tests.{eq-eqb, ne_eqb, eqb-true, eqb-false, ltb-true, ltb-false, lt-ltb, le-ltb}
 use lib.Pow.{pow_mono, shr-shr, shr_le, shl_exact}
-use lib.Dec.{eqb, ltb}
+use lib.Dec.{eqb, ltb, eqb-suc-suc}
 use lib.Count.{count_trailing_zeros, under}
 use lib.Bits.{bit_and, bit_or, bit_xor, xor_shr, xor_mod, and_shr, and_mod, and_lt}
 use Rattle.base.specs.Below.{all_below}
 use Rattle.base.specs.Bits.{bit}
 use Rattle.base.proofs.Bools.{agree}
 use Rattle.base.proofs.Tests.{all_at, all_below_lem}
-use Rattle.search_sets.specs.Set.{holds, LowestMember, FirstFrom}
+use Rattle.search_sets.specs.Set.{holds, LowestMember, FirstFrom, TakenOut}
 use Rattle.std.specs.Prelude.{Some}
 use Rattle.search_sets.proofs.Bit.{has_or, has_and, has_pow}
 
@@ -163,6 +163,33 @@ tz_found m small h =
     (λ l. absurd (h (same_bits 64 m 0 small (omega arith) (λ i j. (tz_lowest 64 m).none i (omega arith) (omega arith) ∙ sym (zero_has i)))))
     (lt_or_le (count_trailing_zeros 64 m) 64)
 
+-- a word without its lowest set bit
+less_bits : (d m : ℕ) → 0 < m → m < 2 ^ d → (k : ℕ) → (bit m k && bit (m - 1) k) ≡ (bit m k && not (eqb k (count_trailing_zeros d m)))
+unfolding count_trailing_zeros
+less_bits zero m some small k = absurd (omega arith)
+less_bits (suc d) m some small k = half (m % 2) refl k (λ e j. less_bits d (m / 2) (omega (arith, e)) (half_lt d small) j)
+  where
+    half : (r : ℕ) → m % 2 ≡ r → (k : ℕ)
+        → (m % 2 ≡ 0 → (j : ℕ) → (bit (m / 2) j && bit (m / 2 - 1) j) ≡ (bit (m / 2) j && not (eqb j (count_trailing_zeros d (m / 2)))))
+        → (bit m k && bit (m - 1) k) ≡ (bit m k && not (eqb k (under r (count_trailing_zeros d (m / 2)))))
+    half zero e zero below =
+        let none : bit m 0 ≡ false = has_zero m ∙ ap (λ (x : ℕ). eqb x 1) e in
+        ap (λ (b : Bool). b && bit (m - 1) 0) none ∙ sym (ap (λ (b : Bool). b && not (eqb 0 (suc (count_trailing_zeros d (m / 2))))) none)
+    half zero e (suc k) below =
+        ap₂ ◌&&◌ (has_suc m k) (has_suc (m - 1) k ∙ ap (λ (x : ℕ). bit x k) (let z : (m - 1) / 2 ≡ m / 2 - 1 = omega arith in z))
+        ∙ below e k ∙ ap₂ (λ (b c : Bool). b && not c) (sym (has_suc m k)) (sym (eqb-suc-suc k (count_trailing_zeros d (m / 2))))
+    half (suc r) e zero below = ap (λ (b : Bool). bit m 0 && b) (has_zero (m - 1) ∙ ne_eqb ((m - 1) % 2) 1 (λ q. omega arith)) ∙ sym (ap (λ (b : Bool). bit m 0 && not b) (eq-eqb 0 0 refl))
+    half (suc r) e (suc k) below =
+        ap₂ ◌&&◌ (has_suc m k) (has_suc (m - 1) k ∙ ap (λ (x : ℕ). bit x k) (let z : (m - 1) / 2 ≡ m / 2 = omega arith in z))
+        ∙ itself (bit (m / 2) k) ∙ sym (ap₂ (λ (b c : Bool). b && not c) (has_suc m k) (ne_eqb (suc k) 0 (λ q. omega arith)) ∙ and-true (bit (m / 2) k))
+      where
+        itself : (b : Bool) → (b && b) ≡ b
+        itself true = refl
+        itself false = refl
+
+lowest_out : (d m : ℕ) → 0 < m → m < 2 ^ d → (k : ℕ) → bit (bit_and m (m - 1)) k ≡ (bit m k && not (eqb k (count_trailing_zeros d m)))
+lowest_out d m some small k = has_and m (m - 1) k ∙ less_bits d m some small k
+
 -- the lowest member of a word from f on
 module _ (m f : ℕ) (small : m < 2 ^ 64) where
   abbrev rest : ℕ
@@ -249,6 +276,44 @@ module _ (lo hi f : ℕ) where
             ⊎_elim (λ m. holds_low lo hi i m ∙ rest_none lo f s e i a) (λ m. holds_high lo hi i m ∙ ap (λ (w : ℕ). bit w (i - 64)) z ∙ zero_has (i - 64)) (lt_or_le i 64);
         here = λ b. absurd (omega arith);
       }
+
+-- the lowest member is taken out
+module _ (lo hi : ℕ) where
+  pub taken_low : lo < 2 ^ 64 → (lo ≡ 0 → ⊥) → TakenOut lo hi (count_trailing_zeros 64 lo) (bit_and lo (lo - 1)) hi
+  taken_low s h = record {
+    few = omega (arith, l);
+    lowest = record {
+      within = omega (arith, l);
+      onward = omega arith;
+      none = λ i a b. holds_low lo hi i (omega (arith, l)) ∙ (tz_lowest 64 lo).none i a b;
+      here = λ b. holds_low lo hi t l ∙ (tz_lowest 64 lo).here l;
+    };
+    left = λ k.
+        ⊎_elim (λ m. holds_low (bit_and lo (lo - 1)) hi k m ∙ lowest_out 64 lo (omega arith) s k ∙ ap (λ (b : Bool). b && not (eqb k t)) (sym (holds_low lo hi k m)))
+        (λ m. holds_high (bit_and lo (lo - 1)) hi k m ∙ sym (ap₂ (λ (b c : Bool). b && not c) (holds_high lo hi k m) (ne_eqb k t (λ e. omega (arith, l))) ∙ and-true (bit hi (k - 64)))) (lt_or_le k 64);
+  }
+    where
+      t : ℕ
+      t = count_trailing_zeros 64 lo
+
+      l : t < 64
+      l = tz_found lo s h
+
+  pub taken_high : lo < 2 ^ 64 → hi < 2 ^ 64 → lo ≡ 0 → (hi ≡ 0 → ⊥) → TakenOut lo hi (64 + count_trailing_zeros 64 hi) lo (bit_and hi (hi - 1))
+  taken_high r s z h = record {
+    few = omega (arith, l);
+    lowest = (first_next lo hi 0 r s (omega arith) (div-one lo ∙ z) h).1;
+    left = λ k.
+        ⊎_elim (λ m. holds_low lo (bit_and hi (hi - 1)) k m ∙ sym (ap₂ (λ (b c : Bool). b && not c) (holds_low lo hi k m) (ne_eqb k (64 + t) (λ e. omega arith)) ∙ and-true (bit lo k)))
+        (λ m. holds_high lo (bit_and hi (hi - 1)) k m ∙ lowest_out 64 hi (omega arith) s (k - 64)
+        ∙ ap₂ (λ (b c : Bool). b && not c) (sym (holds_high lo hi k m)) (ap (eqb (k - 64)) (let y : t ≡ 64 + t - 64 = omega arith in y) ∙ eqb_shift k (64 + t) m (omega arith))) (lt_or_le k 64);
+  }
+    where
+      t : ℕ
+      t = count_trailing_zeros 64 hi
+
+      l : t < 64
+      l = tz_found hi s h
 
 pub first_past : (p : ℕ → Bool) (f : ℕ) → f ≤ 128 → 128 ≤ f → LowestMember p f 128 128
 first_past p f h l = record { within = omega arith; onward = h; none = λ i a b. absurd (omega arith); here = λ b. absurd (omega arith) }

@@ -59,13 +59,6 @@ impl Set {
         }
     }
 
-    pub fn remove(self, i: usize) -> Set
-        requires { i < 128 }
-        ensures { (k : ℕ) → holds result.lo result.hi k ≡ (holds self.lo self.hi k && not (eqb k i)) }
-    {
-        self - Set::EMPTY.insert(i)
-    }
-
     pub fn is_subset(self, other: Set) -> bool
         ensures { result ≡ all_below 128 (λ (k : ℕ). not (holds self.lo self.hi k) || holds other.lo other.hi k) }
     {
@@ -159,8 +152,15 @@ impl Iterator for Members {
     ghost remaining = { λ s. at_most (passing 128 (holds s.left.lo s.left.hi)) };
 
     fn next(&mut self) -> Option<usize> {
-        let first = self.left.first_from(0)?;
-        self.left = self.left.remove(first);
-        Some(first)
+        let Set { lo, hi } = self.left;
+        if lo != 0 {
+            self.left.lo = lo & (lo - 1);
+            return Some(lo.trailing_zeros() as usize);
+        }
+        if hi != 0 {
+            self.left.hi = hi & (hi - 1);
+            return Some(64 + hi.trailing_zeros() as usize);
+        }
+        None
     }
 }
