@@ -4,6 +4,7 @@ pub mod Lists
 pub mod Lex
 pub mod Tests
 pub mod Folds
+pub mod Chains
 pub mod Copies
 pub mod Bits
 pub mod Entries
