@@ -1,6 +1,5 @@
 -- The laws of this crate, open to the crates above it.
 pub mod Arms
-pub mod Splits
 pub mod LinkMeaning
 pub mod PairMeaning
 pub mod LowestLaws

@@ -1,10 +1,13 @@
 -- The rules one after the other: the lowest that is broken.
 use Prim.Native.Nat.{ℕ, zero, suc, ◌+◌, ◌-◌, ◌≤◌, ◌<◌}
 use native.Mathlib.Omega.{arith}
-use mathlib.Core.Path.{◌≡◌, refl, sym, ap, ◌∙◌}
+use native.Mathlib.Numerals.{add-one}
+use mathlib.Core.Path.{◌≡◌, refl, sym, ap, ◌∙◌, subst}
 use mathlib.Core.Bool.{Bool, true, false, cond}
 use mathlib.Core.List.{List, [], map}
 use mathlib.Core.Option.{none, some}
+use Rattle.std.specs.Prelude.{Option, Some, None, MatchOption}
+use Rattle.judge_rules.specs.Lowest.{lowest_meant}
 use lib.ListN.{length, get_or, drop, drop_of_length-le}
 use lib.Seq.{drop-cons}
 use Rattle.base.specs.Lists.{any}
@@ -71,3 +74,22 @@ module _ {e : Execution} {xs : List ℕ} {k : ℕ} (inv : Decided e xs k) where
   pub decided_none : 16 ≤ k → none ≡ lowest_broken e xs
   unfolding lowest_from
   decided_none h = sym (inv.rest ∙ ap (λ (r : List (List Claim)). lowest_from (suc k) r xs) (drop_of_length-le (rules e) {i = k} (omega (arith, sixteen e))))
+
+module _ (e : Execution) (xs : List ℕ) where
+  abbrev pub breaks : ℕ → Bool
+  breaks rule = any (broken xs) (get_or (rules e) (rule - 1) [])
+
+  -- the first k rules are kept
+  decided_at : (k : ℕ) → k ≤ 16 → ((rule : ℕ) → 1 ≤ rule → rule < k + 1 → breaks rule ≡ false) → Decided e xs k
+  decided_at zero l h = decided_first e xs
+  decided_at (suc k) l h =
+      subst (Decided e xs) (add-one k) (decided_more (decided_at k (omega arith) (λ rule a b. h rule a (omega arith))) (omega arith) (at_index e xs k ∙ h (k + 1) (omega arith) (omega arith)))
+
+  -- the first that is broken
+  pub lowest_is : (r : Option ℕ)
+      → MatchOption r ((rule : ℕ) → 1 ≤ rule → rule < 17 → breaks rule ≡ false) (λ i. (1 ≤ i) × (i < 17) × (breaks i ≡ true) × ((rule : ℕ) → 1 ≤ rule → rule < i → breaks rule ≡ false))
+      → lowest_meant r ≡ lowest_broken e xs
+  lowest_is None kept = decided_none (decided_at 16 (omega arith) kept) (omega arith)
+  lowest_is (Some zero) (a, b, h, kept) = absurd (omega arith)
+  lowest_is (Some (suc k)) (a, b, h, kept) =
+      ap some (sym (add-one k)) ∙ decided_broken (decided_at k (omega arith) (λ rule l m. kept rule l (omega arith))) (omega arith) (at_index e xs k ∙ ap breaks (add-one k) ∙ h)

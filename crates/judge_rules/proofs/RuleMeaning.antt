@@ -1,5 +1,7 @@
 -- The tests over tables say of every rule whether a prefix breaks it.
-use Prim.Native.Nat.{ℕ, ◌-◌, ◌≤◌}
+use Prim.Native.Nat.{ℕ, ◌-◌, ◌≤◌, ◌<◌}
+use native.Mathlib.Omega.{arith}
+use native.Mathlib.Decide.{dec_lt}
 use mathlib.Core.Path.{◌≡◌, sym, ap, ◌∙◌}
 use mathlib.Core.Bool.{Bool}
 use mathlib.Core.List.{List, []}
@@ -54,6 +56,17 @@ module _ {bytes : List ℕ} {x : Execution} {t : Operations} {marks : List (List
   pub means16 : rule ≡ 16 → pairs rule ≡ breaks rule
   unfolding rules
   means16 q = by_number 16 q (rule16_means bytes x h p t.count)
+
+  -- rules 9, 10, 12, 14 and 16
+  pub means_pairs : 9 ≤ rule → rule ≤ 16 → (rule ≡ 11 → ⊥) → (rule ≡ 13 → ⊥) → (rule ≡ 15 → ⊥) → pairs rule ≡ breaks rule
+  means_pairs low high c11 c13 c15 = go (dec_lt rule 10) (dec_lt rule 11) (dec_lt rule 13) (dec_lt rule 15)
+    where
+      go : Dec (rule < 10) → Dec (rule < 11) → Dec (rule < 13) → Dec (rule < 15) → pairs rule ≡ breaks rule
+      go (yes a) d11 d13 d15 = means9 (omega arith)
+      go (no a) (yes b) d13 d15 = means10 (omega arith)
+      go (no a) (no b) (yes d) d15 = means12 (omega (arith, c11))
+      go (no a) (no b) (no d) (yes f) = means14 (omega (arith, c13))
+      go (no a) (no b) (no d) (no f) = means16 (omega (arith, c15))
 
   pub means_links : 1 ≤ rule → rule ≤ 16 → (rule ≡ 9 → ⊥) → (rule ≡ 10 → ⊥) → (rule ≡ 11 → ⊥) → (rule ≡ 12 → ⊥) → (rule ≡ 14 → ⊥) → (rule ≡ 16 → ⊥)
       → links_broken places rule t.count t.owners t.roles x.instructions.processors marks ≡ breaks rule

@@ -1,9 +1,8 @@
--- The lowest broken rule of the code as the model's.
-use Rattle.std.specs.Prelude.{ℕ}
-use Rattle.std.proofs.Math.Option.{Option, none, some}
-use Rattle.judge_rules.specs.declared.lowest.Lowest.{Lowest}
-use Rattle.judge_rules.specs.declared.lowest.Lowest.TheVariants.{Unbroken, Broken}
+-- The number of the lowest broken rule, as the model's.
+use Rattle.std.specs.Prelude.{ℕ, Option, Some, None}
+use Rattle.std.proofs.Math.Option as math
+use Rattle.std.proofs.Math.Option.{none, some}
 
-abbrev pub lowest_meant : Lowest → Option ℕ
-lowest_meant Unbroken = none
-lowest_meant (Broken k) = some k
+abbrev pub lowest_meant : Option ℕ → math.Option ℕ
+lowest_meant None = none
+lowest_meant (Some rule) = some rule

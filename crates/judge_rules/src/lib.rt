@@ -4,3 +4,4 @@
 pub mod linked;
 pub mod lowest;
 pub mod pairwise;
+pub mod prefix;

@@ -7,8 +7,7 @@ ghost use Rattle.relation_places.specs.Places.{Placed};
 ghost use Rattle.relation_links.specs.Compiled.{Compiled};
 ghost use Rattle.judge_rules.specs.Lowest.{lowest_meant};
 
-use crate::linked::links_broken;
-use crate::pairwise::pairs_broken;
+use crate::prefix::Prefix;
 use judge_sights::sights_broken;
 use record_decoded::position::Position;
 use record_decoded::types::{Execution, MOST_INSTRUCTIONS};
@@ -17,61 +16,39 @@ use relation_links::operations::Operations;
 // How many visibility rules there are.
 const RULES: u8 = 16;
 
-// No rule, or the lowest, by its number.
-#[derive(Clone, Copy)]
-pub enum Lowest {
-    Unbroken,
-    Broken(u8),
-}
-
-// Whether a prefix breaks a rule from 1 to 16.
-fn rule_broken(
-    rule: u8,
-    bytes: &[u8],
-    x: Execution,
-    t: Operations,
-    marks: &[[u16; MOST_INSTRUCTIONS]; MOST_INSTRUCTIONS],
-    places: &[u8; Position::LIMIT],
-) -> bool
-    requires bounds { (1 ≤ rule) × (rule ≤ 16) × (x.instructions.count ≤ 40) × (x.lines.count ≤ 8) × (x.processors ≤ 8) × (t.count ≤ 128) }
-    requires compiled { Compiled x t marks.now }
-    ensures { (n : ℕ) (xs : List ℕ) → Placed n xs places.now → result ≡ any (broken xs) (get_or (rules (execution_of bytes.now x)) (rule - 1) []) }
-{
-    let is = x.instructions;
-    let n = t.count;
-    match rule {
-        9 => pairs_broken(rule, is, marks, n, x.processors, places),
-        10 => pairs_broken(rule, is, marks, n, x.processors, places),
-        11 => sights_broken(bytes, x, places),
-        12 => pairs_broken(rule, is, marks, n, x.processors, places),
-        14 => pairs_broken(rule, is, marks, n, x.processors, places),
-        16 => pairs_broken(rule, is, marks, n, x.processors, places),
-        _ => {
-            let owners = t.owners;
-            let roles = t.roles;
-            let processors = is.processors;
-            links_broken(rule, n, &owners, &roles, &processors, marks, places)
+impl Prefix<'_> {
+    // Whether the prefix breaks a rule from 1 to 16.
+    fn rule_broken(&self, rule: u8) -> bool
+        requires bounds { (1 ≤ rule) × (rule ≤ 16) × (self.now.execution.now.instructions.count ≤ 40) × (self.now.execution.now.lines.count ≤ 8) × (self.now.execution.now.processors ≤ 8) × (self.now.operations.now.count ≤ 128) }
+        requires compiled { Compiled self.now.execution.now self.now.operations.now self.now.marks.now }
+        ensures { (n : ℕ) (xs : List ℕ) → Placed n xs self.now.places.now → result ≡ any (broken xs) (get_or (rules (execution_of self.now.bytes.now self.now.execution.now)) (rule - 1) []) }
+    {
+        match rule {
+            9 | 10 | 12 | 14 | 16 => self.pairs_broken(rule),
+            11 => sights_broken(self.bytes, *self.execution, self.places),
+            _ => self.links_broken(rule),
         }
     }
 }
 
-// The lowest rule that a prefix breaks.
-pub fn lowest_broken(
-    bytes: &[u8],
+// The number of the lowest rule that a prefix breaks.
+pub fn lowest_broken<'a>(
+    bytes: &'a [u8],
     x: Execution,
     t: Operations,
-    marks: &[[u16; MOST_INSTRUCTIONS]; MOST_INSTRUCTIONS],
-    places: &[u8; Position::LIMIT],
-) -> Lowest
+    marks: &'a [[u16; MOST_INSTRUCTIONS]; MOST_INSTRUCTIONS],
+    places: &'a [u8; Position::LIMIT],
+) -> Option<u8>
     requires bounds { (x.instructions.count ≤ 40) × (x.lines.count ≤ 8) × (x.processors ≤ 8) × (t.count ≤ 128) }
     requires compiled { Compiled x t marks.now }
     ensures { (n : ℕ) (xs : List ℕ) → Placed n xs places.now → lowest_meant result ≡ lowest_broken (execution_of bytes.now x) xs }
 {
-    for k in 0u8..RULES {
-        let rule = k + 1;
-        if rule_broken(rule, bytes, x, t, marks, places) {
-            return Lowest::Broken(rule);
-        }
-    }
-    Lowest::Unbroken
+    let prefix = Prefix {
+        bytes,
+        execution: &x,
+        operations: &t,
+        marks,
+        places,
+    };
+    (1..RULES + 1).find(|&rule| prefix.rule_broken(rule))
 }

@@ -1,280 +1,191 @@
 // Rules 9, 10, 12, 14 and 16: what two instructions, by their marks, ask of the places of their operations.
-ghost use Rattle.std.specs.Prelude.{◌≡◌, ◌<◌, ◌≤◌};
+ghost use Rattle.std.specs.Prelude.{◌≡◌, ◌<◌, ◌≤◌, eqb};
 ghost use Rattle.base.specs.Below.{any_below};
+ghost use Rattle.model.specs.Execution.{RV, number_of};
 ghost use Rattle.model.specs.Rules.{RV_own};
+ghost use Rattle.record_decoded.specs.Kinds.{role_meant, role_processor};
 ghost use Rattle.record_decoded.specs.Decoded.{instruction_at};
+ghost use Rattle.relation_places.specs.Places.{before_by};
 ghost use Rattle.relation_marks.specs.Marks.{mark_at};
 ghost use Rattle.judge_rules.specs.Tests.{remote_before, own_turned, remote_turned, release_split_by, release_split, bypassed, semaphore_split, pair_broken, pairs_broken};
 
+use crate::prefix::Prefix;
 use record_decoded::kind::Role;
 use record_decoded::number::number_at;
-use record_decoded::position::Position;
-use record_decoded::types::{InstructionNo, Instructions, MOST_INSTRUCTIONS, OperationNo, wide};
-use relation_marks::table::{ATOMIC, BYPASS, CONFLICT, SEMAPHORE, both, either, has_mark};
+use record_decoded::types::{InstructionNo, OperationNo, wide};
+use relation_marks::table::{ATOMIC, BYPASS, CONFLICT, SEMAPHORE, has_mark};
 use relation_places::before;
 
-// The number of the RV of instruction i to its own processor.
-fn own_no(is: Instructions, i: InstructionNo) -> OperationNo
-    requires { i.0 < 40 }
-    ensures { result.0 ≡ RV_own (instruction_at is i.0) }
-{
-    let processors = is.processors;
-    let at = i.0;
-    let processor = wide(processors[at]);
-    number_at(is, i, Role::RV(processor))
-}
+impl Prefix<'_> {
+    // The processor of an instruction.
+    #[tactic(auto, unfolding(record_decoded::specs::Decoded::instruction_at))]
+    fn processor_of(&self, i: InstructionNo) -> usize
+        requires { i.0 < 40 }
+        ensures { (result ≡ (instruction_at self.now.execution.now.instructions i.0).processor) × (result < 256) }
+    {
+        wide(self.execution.instructions.processors[i.0])
+    }
 
-// Rule 9: of one processor, LV before LV, and not the own RVs.
-fn own_turned(
-    places: &[u8; Position::LIMIT],
-    is: Instructions,
-    v: InstructionNo,
-    w: InstructionNo,
-) -> bool
-    requires { (v.0 < 40) × (w.0 < 40) }
-    ensures { result ≡ own_turned places.now (instruction_at is v.0) (instruction_at is w.0) }
-{
-    let processors = is.processors;
-    let i = v.0;
-    let j = w.0;
-    let own = processors[i] == processors[j];
-    let local = before(
-        places,
-        number_at(is, v, Role::LV),
-        number_at(is, w, Role::LV),
-    );
-    let turned = before(places, own_no(is, w), own_no(is, v));
-    both(own, both(local, turned))
-}
+    // The number of the operation of instruction i in a role.
+    fn number(&self, i: InstructionNo, role: Role) -> OperationNo
+        requires { (i.0 < 40) × (role_processor role < 65536) }
+        ensures { result.0 ≡ number_of (instruction_at self.now.execution.now.instructions i.0) (role_meant role) }
+    {
+        number_at(self.execution.instructions, i, role)
+    }
 
-// Whether some RV of v is before that of w to the same processor.
-fn remote_before(
-    places: &[u8; Position::LIMIT],
-    processors: usize,
-    is: Instructions,
-    v: InstructionNo,
-    w: InstructionNo,
-) -> bool
-    requires { (v.0 < 40) × (w.0 < 40) × (processors ≤ 255) }
-    ensures { result ≡ remote_before places.now processors (instruction_at is v.0) (instruction_at is w.0) }
-{
-    for q in 0..processors {
-        let of_v = number_at(is, v, Role::RV(q));
-        let of_w = number_at(is, w, Role::RV(q));
-        if before(places, of_v, of_w) {
-            return true;
+    // The number of the RV of instruction i to its own processor.
+    fn own_no(&self, i: InstructionNo) -> OperationNo
+        requires { i.0 < 40 }
+        ensures { result.0 ≡ RV_own (instruction_at self.now.execution.now.instructions i.0) }
+    {
+        self.number(i, Role::RV(self.processor_of(i)))
+    }
+
+    // Whether one operation stands before another.
+    fn is_before(&self, a: OperationNo, b: OperationNo) -> bool
+        ensures { result ≡ before_by self.now.places.now a.0 b.0 }
+    {
+        before(self.places, a, b)
+    }
+
+    // Rule 9: of one processor, LV before LV, and not the own RVs.
+    #[tactic(auto, unfolding(crate::specs::Tests::own_turned))]
+    fn own_turned(&self, v: InstructionNo, w: InstructionNo) -> bool
+        requires { (v.0 < 40) × (w.0 < 40) }
+        ensures { result ≡ own_turned self.now.places.now (instruction_at self.now.execution.now.instructions v.0) (instruction_at self.now.execution.now.instructions w.0) }
+    {
+        self.processor_of(v) == self.processor_of(w)
+            && self.is_before(self.number(v, Role::LV), self.number(w, Role::LV))
+            && self.is_before(self.own_no(w), self.own_no(v))
+    }
+
+    // Whether some RV of v is before that of w to the same processor.
+    fn remote_before(&self, v: InstructionNo, w: InstructionNo) -> bool
+        requires { (v.0 < 40) × (w.0 < 40) × (self.now.execution.now.processors ≤ 255) }
+        ensures { result ≡ remote_before self.now.places.now self.now.execution.now.processors (instruction_at self.now.execution.now.instructions v.0) (instruction_at self.now.execution.now.instructions w.0) }
+    {
+        (0..self.execution.processors).any(|q| self.is_before(
+            self.number(v, Role::RV(q)),
+            self.number(w, Role::RV(q)),
+        ))
+    }
+
+    // Rule 10: some RV before the other's, and some after.
+    #[tactic(auto, unfolding(crate::specs::Tests::remote_turned))]
+    fn remote_turned(&self, v: InstructionNo, w: InstructionNo) -> bool
+        requires { (v.0 < 40) × (w.0 < 40) × (self.now.execution.now.processors ≤ 255) }
+        ensures { result ≡ remote_turned self.now.places.now self.now.execution.now.processors (instruction_at self.now.execution.now.instructions v.0) (instruction_at self.now.execution.now.instructions w.0) }
+    {
+        self.remote_before(v, w) && self.remote_before(w, v)
+    }
+
+    // Whether an operation is one of the RVs of v.
+    fn is_remote_of(&self, v: InstructionNo, operation: OperationNo) -> bool
+        requires { (v.0 < 40) × (self.now.execution.now.processors ≤ 255) }
+        ensures { result ≡ any_below self.now.execution.now.processors (λ q. eqb (number_of (instruction_at self.now.execution.now.instructions v.0) (RV q)) operation.0) }
+    {
+        (0..self.execution.processors).any(|q| self.number(v, Role::RV(q)).0 == operation.0)
+    }
+
+    // Whether it stands after one of them.
+    fn is_after_remote(&self, v: InstructionNo, operation: OperationNo) -> bool
+        requires { (v.0 < 40) × (self.now.execution.now.processors ≤ 255) }
+        ensures { result ≡ any_below self.now.execution.now.processors (λ q. before_by self.now.places.now (number_of (instruction_at self.now.execution.now.instructions v.0) (RV q)) operation.0) }
+    {
+        (0..self.execution.processors).any(|q| self.is_before(
+            self.number(v, Role::RV(q)),
+            operation,
+        ))
+    }
+
+    // Whether it stands before one of them.
+    fn is_before_remote(&self, v: InstructionNo, operation: OperationNo) -> bool
+        requires { (v.0 < 40) × (self.now.execution.now.processors ≤ 255) }
+        ensures { result ≡ any_below self.now.execution.now.processors (λ q. before_by self.now.places.now operation.0 (number_of (instruction_at self.now.execution.now.instructions v.0) (RV q))) }
+    {
+        (0..self.execution.processors).any(|q| self.is_before(
+            operation,
+            self.number(v, Role::RV(q)),
+        ))
+    }
+
+    // Whether it is none of them, and stands after one and before another.
+    #[tactic(auto, unfolding(crate::specs::Tests::release_split_by))]
+    fn splits_release(&self, v: InstructionNo, operation: OperationNo) -> bool
+        requires { (v.0 < 40) × (self.now.execution.now.processors ≤ 255) }
+        ensures { result ≡ release_split_by self.now.places.now self.now.execution.now.processors (instruction_at self.now.execution.now.instructions v.0) operation.0 }
+    {
+        !self.is_remote_of(v, operation)
+            && self.is_after_remote(v, operation)
+            && self.is_before_remote(v, operation)
+    }
+
+    // Rule 12: whether some operation splits the RVs of v.
+    fn release_split(&self, v: InstructionNo) -> bool
+        requires { (v.0 < 40) × (self.now.execution.now.processors ≤ 255) }
+        ensures { result ≡ release_split self.now.places.now self.now.operations.now.count self.now.execution.now.processors (instruction_at self.now.execution.now.instructions v.0) }
+    {
+        (0..self.operations.count).any(|o| self.splits_release(v, OperationNo(o)))
+    }
+
+    // Rule 14: LV, then R, then the own RV.
+    #[tactic(auto, unfolding(crate::specs::Tests::bypassed))]
+    fn bypassed(&self, v: InstructionNo, w: InstructionNo) -> bool
+        requires { (v.0 < 40) × (w.0 < 40) }
+        ensures { result ≡ bypassed self.now.places.now (instruction_at self.now.execution.now.instructions v.0) (instruction_at self.now.execution.now.instructions w.0) }
+    {
+        let reads = self.number(w, Role::R);
+        self.is_before(self.number(v, Role::LV), reads) && self.is_before(reads, self.own_no(v))
+    }
+
+    // Rule 16: R of v, then the RV of w to its processor, then its own RV.
+    #[tactic(auto, unfolding(crate::specs::Tests::semaphore_split))]
+    fn semaphore_split(&self, v: InstructionNo, w: InstructionNo) -> bool
+        requires { (v.0 < 40) × (w.0 < 40) }
+        ensures { result ≡ semaphore_split self.now.places.now (instruction_at self.now.execution.now.instructions v.0) (instruction_at self.now.execution.now.instructions w.0) }
+    {
+        let between = self.number(w, Role::RV(self.processor_of(v)));
+        self.is_before(self.number(v, Role::R), between) && self.is_before(between, self.own_no(v))
+    }
+
+    // Whether two instructions, by their marks, break the rule.
+    fn pair_broken(&self, rule: u8, marks: u16, v: InstructionNo, w: InstructionNo) -> bool
+        requires { (v.0 < 40) × (w.0 < 40) × (self.now.execution.now.processors ≤ 255) }
+        ensures { result ≡ pair_broken self.now.places.now rule marks self.now.operations.now.count self.now.execution.now.processors (instruction_at self.now.execution.now.instructions v.0) (instruction_at self.now.execution.now.instructions w.0) }
+    {
+        match rule {
+            9 => has_mark(marks, CONFLICT) && self.own_turned(v, w),
+            10 => has_mark(marks, CONFLICT) && self.remote_turned(v, w),
+            12 => has_mark(marks, ATOMIC) && self.release_split(v),
+            14 => has_mark(marks, BYPASS) && self.bypassed(v, w),
+            16 => has_mark(marks, SEMAPHORE) && self.semaphore_split(v, w),
+            _ => false,
         }
     }
-    false
-}
 
-// Rule 10: some RV before the other's, and some after.
-fn remote_turned(
-    places: &[u8; Position::LIMIT],
-    processors: usize,
-    is: Instructions,
-    v: InstructionNo,
-    w: InstructionNo,
-) -> bool
-    requires { (v.0 < 40) × (w.0 < 40) × (processors ≤ 255) }
-    ensures { result ≡ remote_turned places.now processors (instruction_at is v.0) (instruction_at is w.0) }
-{
-    if remote_before(places, processors, is, v, w) {
-        remote_before(places, processors, is, w, v)
-    } else {
-        false
-    }
-}
-
-// Whether an operation is none of the RVs of v, and stands after one of them and before another.
-fn splits_release(
-    places: &[u8; Position::LIMIT],
-    processors: usize,
-    is: Instructions,
-    v: InstructionNo,
-    operation: OperationNo,
-) -> bool
-    requires { (v.0 < 40) × (processors ≤ 255) }
-    ensures { result ≡ release_split_by places.now processors (instruction_at is v.0) operation.0 }
-{
-    let o = operation.0;
-    let mut after = false;
-    let mut ahead = false;
-    for q in 0..processors {
-        let rv = number_at(is, v, Role::RV(q));
-        if rv.0 == o {
-            return false;
-        }
-        after = either(after, before(places, rv, operation));
-        ahead = either(ahead, before(places, operation, rv));
-    }
-    both(after, ahead)
-}
-
-// Rule 12: whether some operation splits the RVs of v.
-fn release_split(
-    places: &[u8; Position::LIMIT],
-    operations: usize,
-    processors: usize,
-    is: Instructions,
-    v: InstructionNo,
-) -> bool
-    requires { (v.0 < 40) × (processors ≤ 255) }
-    ensures { result ≡ release_split places.now operations processors (instruction_at is v.0) }
-{
-    for o in 0..operations {
-        if splits_release(places, processors, is, v, OperationNo(o)) {
-            return true;
-        }
-    }
-    false
-}
-
-// Rule 14: LV, then R, then the own RV.
-fn bypassed(
-    places: &[u8; Position::LIMIT],
-    is: Instructions,
-    v: InstructionNo,
-    w: InstructionNo,
-) -> bool
-    requires { (v.0 < 40) × (w.0 < 40) }
-    ensures { result ≡ bypassed places.now (instruction_at is v.0) (instruction_at is w.0) }
-{
-    let reads = number_at(is, w, Role::R);
-    let local = before(places, number_at(is, v, Role::LV), reads);
-    both(local, before(places, reads, own_no(is, v)))
-}
-
-// Rule 16: R of v, then the RV of w to its processor, then its own RV.
-fn semaphore_split(
-    places: &[u8; Position::LIMIT],
-    is: Instructions,
-    v: InstructionNo,
-    w: InstructionNo,
-) -> bool
-    requires { (v.0 < 40) × (w.0 < 40) }
-    ensures { result ≡ semaphore_split places.now (instruction_at is v.0) (instruction_at is w.0) }
-{
-    let processors = is.processors;
-    let at = v.0;
-    let processor = wide(processors[at]);
-    let between = number_at(is, w, Role::RV(processor));
-    let after = before(places, number_at(is, v, Role::R), between);
-    both(after, before(places, between, own_no(is, v)))
-}
-
-// Whether two instructions, by their marks, break the rule.
-fn pair_broken(
-    rule: u8,
-    marks: u16,
-    operations: usize,
-    processors: usize,
-    is: Instructions,
-    v: InstructionNo,
-    w: InstructionNo,
-    places: &[u8; Position::LIMIT],
-) -> bool
-    requires { (v.0 < 40) × (w.0 < 40) × (processors ≤ 255) }
-    ensures { result ≡ pair_broken places.now rule marks operations processors (instruction_at is v.0) (instruction_at is w.0) }
-{
-    match rule {
-        9 => {
-            if has_mark(marks, CONFLICT) {
-                own_turned(places, is, v, w)
-            } else {
-                false
-            }
-        }
-        10 => {
-            if has_mark(marks, CONFLICT) {
-                remote_turned(places, processors, is, v, w)
-            } else {
-                false
-            }
-        }
-        12 => {
-            if has_mark(marks, ATOMIC) {
-                release_split(places, operations, processors, is, v)
-            } else {
-                false
-            }
-        }
-        14 => {
-            if has_mark(marks, BYPASS) {
-                bypassed(places, is, v, w)
-            } else {
-                false
-            }
-        }
-        16 => {
-            if has_mark(marks, SEMAPHORE) {
-                semaphore_split(places, is, v, w)
-            } else {
-                false
-            }
-        }
-        _ => false,
-    }
-}
-
-// Whether instruction i breaks the rule with some instruction.
-fn pairs_broken_with(
-    rule: u8,
-    is: Instructions,
-    marks: &[[u16; MOST_INSTRUCTIONS]; MOST_INSTRUCTIONS],
-    operations: usize,
-    processors: usize,
-    i: InstructionNo,
-    places: &[u8; Position::LIMIT],
-) -> bool
-    requires { (is.count ≤ 40) × (i.0 < 40) × (processors ≤ 255) }
-    ensures { result ≡ any_below is.count (λ j. pair_broken places.now rule (mark_at marks.now i.0 j) operations processors (instruction_at is i.0) (instruction_at is j)) }
-{
-    let n = is.count;
-    let v = i.0;
-    for j in 0..n {
-        let between = marks[v][j];
-        if pair_broken(
+    // Whether instruction i breaks the rule with some instruction.
+    fn pairs_broken_with(&self, rule: u8, i: InstructionNo) -> bool
+        requires { (self.now.execution.now.instructions.count ≤ 40) × (i.0 < 40) × (self.now.execution.now.processors ≤ 255) }
+        ensures { result ≡ any_below self.now.execution.now.instructions.count (λ j. pair_broken self.now.places.now rule (mark_at self.now.marks.now i.0 j) self.now.operations.now.count self.now.execution.now.processors (instruction_at self.now.execution.now.instructions i.0) (instruction_at self.now.execution.now.instructions j)) }
+    {
+        let marks = &self.marks[i.0];
+        (0..self.execution.instructions.count).any(|j| self.pair_broken(
             rule,
-            between,
-            operations,
-            processors,
-            is,
+            marks[j],
             i,
             InstructionNo(j),
-            places,
-        ) {
-            return true;
-        }
+        ))
     }
-    false
-}
 
-// Whether some two instructions break rule 9, 10, 12, 14 or 16.
-pub fn pairs_broken(
-    rule: u8,
-    is: Instructions,
-    marks: &[[u16; MOST_INSTRUCTIONS]; MOST_INSTRUCTIONS],
-    operations: usize,
-    processors: usize,
-    places: &[u8; Position::LIMIT],
-) -> bool
-    requires { (is.count ≤ 40) × (processors ≤ 255) }
-    ensures { result ≡ pairs_broken places.now rule is marks.now operations processors }
-{
-    let n = is.count;
-    for i in 0..n {
-        if pairs_broken_with(
+    // Whether some two instructions break rule 9, 10, 12, 14 or 16.
+    pub fn pairs_broken(&self, rule: u8) -> bool
+        requires { (self.now.execution.now.instructions.count ≤ 40) × (self.now.execution.now.processors ≤ 255) }
+        ensures { result ≡ pairs_broken self.now.places.now rule self.now.execution.now.instructions self.now.marks.now self.now.operations.now.count self.now.execution.now.processors }
+    {
+        (0..self.execution.instructions.count).any(|i| self.pairs_broken_with(
             rule,
-            is,
-            marks,
-            operations,
-            processors,
             InstructionNo(i),
-            places,
-        ) {
-            return true;
-        }
+        ))
     }
-    false
 }

@@ -1,0 +1,10 @@
+-- Some operation stands against a link.
+use borrow.Author.Tests.{tests}
+use Rattle.std.proofs.Common.{rules}
+use Rattle.relation_places.proofs.Ranges.{any_over_range}
+use Rattle.judge_rules.specs.Tests.{links_broken}
+use Rattle.judge_rules.proofs.prefix.Prefix.links_broken.Goals as goal
+
+pub returns : goal.returns
+unfolding links_broken
+returns c = any_over_range _ _ _ _ c.any.result c.any.ensures.ran (λ x b q k. search (rules, tests))

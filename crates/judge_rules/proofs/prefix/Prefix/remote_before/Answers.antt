@@ -1,0 +1,10 @@
+-- Some processor has the RVs this way round.
+use borrow.Author.Tests.{tests}
+use Rattle.std.proofs.Common.{rules}
+use Rattle.relation_places.proofs.Ranges.{any_over_range}
+use Rattle.judge_rules.specs.Tests.{remote_before}
+use Rattle.judge_rules.proofs.prefix.Prefix.remote_before.Goals as goal
+
+pub returns : goal.returns
+unfolding remote_before
+returns c = any_over_range _ _ _ _ c.any.result c.any.ensures.ran (λ x b q k. search (rules, tests))
