@@ -1,6 +1,6 @@
 -- The judge of an accepted record is the judge of its execution; the ways out of the latter.
 use Prim.Native.Nat.{ℕ}
-use mathlib.Core.Path.{◌≡◌, sym, ap, ◌∙◌}
+use mathlib.Core.Path.{◌≡◌, refl, sym, ap, ◌∙◌}
 use mathlib.Core.Bool.{Bool, true, false}
 use mathlib.Core.List.{List, []}
 use mathlib.Core.Option.{Option}
@@ -10,6 +10,10 @@ use Rattle.base.specs.Lists.{distinct}
 use Rattle.model.specs.Execution.{Execution, operations}
 use Rattle.model.specs.Rules.{lowest_broken}
 use Rattle.model.specs.Calls.{says, refuses, read_all, judgement_of, judge_order, judge_call}
+use Rattle.std.specs.Prelude as rust
+use Rattle.std.specs.Prelude.{Some, None, Ok}
+use Rattle.judge_rules.specs.Lowest.{lowest_meant}
+use Rattle.judge_call.specs.Judgements.{judgement_meant}
 use Rattle.model.proofs.Asking.{after_says, after_refuses, asked_yes, asked_no}
 
 pub judge_accepted : (bytes order : List ℕ) (e : Execution) → read_all bytes ≡ says e → judge_order e order ≡ judge_call bytes order
@@ -37,3 +41,8 @@ module _ (e : Execution) (order : List ℕ) (n : ℕ) (is : n ≡ operations e) 
     unfolding judge_order
     judged_rules d o q =
         ap (λ (l : Option ℕ). says (judgement_of l)) q ∙ asked_yes 17 _ (asked_17 d) ∙ asked_yes 16 _ (eq-eqb (length order) (operations e) (long ∙ is))
+
+-- the lowest broken rule as a judgement
+pub told_lowest : (r : rust.Option ℕ) → judgement_meant (Ok r) ≡ says (judgement_of (lowest_meant r))
+told_lowest None = refl
+told_lowest (Some rule) = refl

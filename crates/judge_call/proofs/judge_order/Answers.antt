@@ -1,12 +1,15 @@
 -- Each way out: questions 16 and 17, then what the lowest broken rule says.
-use borrow.Author.Tests.{not-true, not-false}
 use native.Mathlib.Omega.{arith}
-use mathlib.Core.Path.{sym, ap, ◌∙◌}
+use mathlib.Core.Path.{◌≡◌, ◌∙◌}
+use mathlib.Core.Bool.{false}
+use mathlib.Core.List.{[]}
+use Rattle.std.proofs.Common.{rules}
+use Rattle.base.specs.Lists.{distinct}
+use Rattle.relation_places.specs.Places.{Placed}
 use Rattle.record_decoded.specs.Decoded.{execution_of}
 use Rattle.record_decoded.proofs.Counts.{count_is}
-use Rattle.judge_rules.specs.Lowest.{lowest_meant}
 use Rattle.relation_links.proofs.CompiledLaws.{few_processors, few_lines, few_instructions, few_pairs, few_operations, consecutive_here, compiled}
-use Rattle.judge_call.proofs.JudgeLaws.{judged_16, judged_17, judged_rules}
+use Rattle.judge_call.proofs.JudgeLaws.{judged_16, judged_17, judged_rules, told_lowest}
 use Rattle.judge_call.proofs.judge_order.Goals as goal
 
 pub operations_of-t-requires : goal.operations_of-t-requires
@@ -19,19 +22,21 @@ operations_of-t-requires c =
       consecutive = consecutive_here bytes x a;
     }
 
-pub returns-then-order-n : goal.returns-then-order-n
-returns-then-order-n c =
+pub returns-then-order-t : goal.returns-then-order-t
+returns-then-order-t c =
     let a = c.args in
-    judged_16 (execution_of a.bytes.now a.x) a.order.now _ (count_is a.bytes.now a.x _ c.operations_of-t.ensures.counts) c.if-order-n.true
+    judged_16 (execution_of a.bytes.now a.x) a.order.now _ (count_is a.bytes.now a.x _ c.operations_of-t.ensures.counts) (search rules)
 
-pub place_all-placing-requires : goal.place_all-placing-requires
-place_all-placing-requires c = omega (arith, c.operations_of-t.ensures.counts, few_operations c.args.bytes.now c.args.x c.requires)
+pub place_all-requires : goal.place_all-requires
+place_all-requires c = omega (arith, c.operations_of-t.ensures.counts, few_operations c.args.bytes.now c.args.x c.requires)
 
-pub returns-then-not-placing : goal.returns-then-not-placing
-returns-then-not-placing c =
+pub returns-in_err-places : goal.returns-in_err-places
+returns-in_err-places c =
     let a = c.args in
-    judged_17 (execution_of a.bytes.now a.x) a.order.now _ (count_is a.bytes.now a.x _ c.operations_of-t.ensures.counts) c.if-order-n.false
-    (sym c.place_all-placing.ensures.told ∙ not-true _ c.if-not-placing.true)
+    let n = c.operations_of-t.result.count in
+    let other : distinct n [] a.order.now ≡ false = search rules in
+    let refused = judged_17 (execution_of a.bytes.now a.x) a.order.now _ (count_is a.bytes.now a.x _ c.operations_of-t.ensures.counts) (search rules) other in
+    search rules
 
 pub all_marks-marks-requires : goal.all_marks-marks-requires
 all_marks-marks-requires c =
@@ -40,8 +45,8 @@ all_marks-marks-requires c =
     let a = c.requires in
     (few_instructions bytes x a, few_lines bytes x a, few_pairs bytes x a)
 
-pub lowest_broken-lowest-requires : goal.lowest_broken-lowest-requires
-lowest_broken-lowest-requires c =
+pub lowest_broken-requires : goal.lowest_broken-requires
+lowest_broken-requires c =
     let bytes = c.args.bytes.now in
     let x = c.args.x in
     let a = c.requires in
@@ -51,16 +56,12 @@ lowest_broken-lowest-requires c =
       compiled = λ every. compiled every x t (c.all_marks-marks.ensures every);
     }
 
-pub returns-in-Unbroken : goal.returns-in-Unbroken
-returns-in-Unbroken c =
+pub returns : goal.returns
+returns c =
     let a = c.args in
-    let distinct = not-false c.place_all-placing.result.distinct c.if-not-placing.false in
-    judged_rules (execution_of a.bytes.now a.x) a.order.now _ (count_is a.bytes.now a.x _ c.operations_of-t.ensures.counts) c.if-order-n.false (sym c.place_all-placing.ensures.told ∙ distinct) _
-    (ap lowest_meant (sym c.in-Unbroken.is) ∙ c.lowest_broken-lowest.ensures _ a.order.now (c.place_all-placing.ensures.places distinct))
-
-pub returns-in-Broken : goal.returns-in-Broken
-returns-in-Broken c =
-    let a = c.args in
-    let distinct = not-false c.place_all-placing.result.distinct c.if-not-placing.false in
-    judged_rules (execution_of a.bytes.now a.x) a.order.now _ (count_is a.bytes.now a.x _ c.operations_of-t.ensures.counts) c.if-order-n.false (sym c.place_all-placing.ensures.told ∙ distinct) _
-    (ap lowest_meant (sym c.in-Broken.is) ∙ c.lowest_broken-lowest.ensures _ a.order.now (c.place_all-placing.ensures.places distinct))
+    let n = c.operations_of-t.result.count in
+    let places = c.in_ok-places.places in
+    let placed : Placed n a.order.now places = (search rules) in
+    told_lowest c.lowest_broken.result
+    ∙ judged_rules (execution_of a.bytes.now a.x) a.order.now _ (count_is a.bytes.now a.x _ c.operations_of-t.ensures.counts) (search rules) placed.different _
+    (c.lowest_broken.ensures n a.order.now placed)
