@@ -2,24 +2,25 @@
 use Prim.Native.Nat.{ℕ, zero, suc, ◌+◌, ◌*◌, ◌-◌, ◌^◌, ◌≤◌, ◌<◌}
 use native.Mathlib.Omega.{arith}
 use mathlib.Core.Path.{◌≡◌, refl, sym, ap, ◌∙◌, subst}
-use mathlib.Core.Bool.{Bool, true, false, cond, false≢true}
+use mathlib.Core.Bool.{Bool, false, cond}
 use mathlib.Core.List.{List}
 use lib.ListN.{length, drop, replicate, length-append}
-use Rattle.model.specs.Search.{Verdict, allowed, forbidden, unfinished}
+use Rattle.model.specs.Search.{Verdict, unfinished}
 use Rattle.model.specs.Calls as calls
 use Rattle.model.specs.Calls.{Answer, says, refuses, searching, search_reply, search_call}
 use Rattle.model.specs.Verdict.{call_allowance, call_limit, is_unfinished, call_once, call_on, not_called}
-use Rattle.search_call.specs.Calls.{answer_meant, reply_of}
-use Rattle.search_call.specs.declared.call.SearchReply.{SearchReply}
+use Rattle.search_resume.specs.Replies.{verdict_meant}
+use Rattle.search_resume.specs.declared.steps.Verdict as ended
+use Rattle.search_resume.specs.declared.steps.Verdict.TheVariants.{Unfinished, Allowed, Forbidden}
 
-is_unfinished_lem : (a : Answer Verdict) → is_unfinished a ≡ true → a ≡ says unfinished
-is_unfinished_lem (says allowed) h = absurd (false≢true h)
-is_unfinished_lem (says forbidden) h = absurd (false≢true h)
-is_unfinished_lem (says unfinished) h = refl
-is_unfinished_lem (refuses q) h = absurd (false≢true h)
+-- any other verdict ends the calls
+pub other_verdict : (v : ended.Verdict) → (v ≡ Unfinished → ⊥) → is_unfinished (says (verdict_meant v)) ≡ false
+other_verdict Unfinished h = absurd (h refl)
+other_verdict Allowed h = refl
+other_verdict Forbidden h = refl
 
 -- what the calls so far came to
-abbrev total : Answer Verdict → ℕ → ℕ → List ℕ → calls.SearchReply
+abbrev pub total : Answer Verdict → ℕ → ℕ → List ℕ → calls.SearchReply
 total a steps size buffer = record { answer = a; steps = steps; length = size; buffer = buffer }
 
 -- a search that is finished is not called again
@@ -51,15 +52,16 @@ calls_start {bytes} {size} {buffer} h e =
     (record { within = omega arith; few = omega arith; short = omega arith; long = refl; decides = refl }))
 
 module _ {bytes : List ℕ} {made steps size : ℕ} {buffer : List ℕ} (inv : Calling bytes made steps size buffer)
-    (r : SearchReply) {left : List ℕ} (same : reply_of r left ≡ search_call bytes buffer size call_allowance) (kept : length left ≡ length buffer) where
-  one_more : made < 100 → call_on bytes call_limit not_called ≡ call_on bytes (100 - (made + 1)) (total (answer_meant r.answer) (steps + r.steps) r.length left)
+    (answer : Answer Verdict) (more length_left : ℕ) {left : List ℕ}
+    (same : total answer more length_left left ≡ search_call bytes buffer size call_allowance) (kept : length left ≡ length buffer) where
+  one_more : made < 100 → call_on bytes call_limit not_called ≡ call_on bytes (100 - (made + 1)) (total answer (steps + more) length_left left)
   unfolding call_on call_once
   one_more h =
       inv.decides
       ∙ ap (λ (k : ℕ). call_on bytes k (total (says unfinished) steps size buffer)) (let z : 100 - made ≡ suc (100 - (made + 1)) = omega arith in z)
       ∙ ap (λ (q : calls.SearchReply). call_on bytes (100 - (made + 1)) (total q.answer (steps + q.steps) q.length q.buffer)) (sym same)
 
-  pub call_short : r.length ≤ 128
+  pub call_short : length_left ≤ 128
   unfolding search_call
   call_short =
       omega (
@@ -69,20 +71,20 @@ module _ {bytes : List ℕ} {made steps size : ℕ} {buffer : List ℕ} (inv : C
         reply_short size buffer (searching bytes buffer size call_allowance) (omega (arith, inv.short, inv.long)) (ap (λ (q : calls.SearchReply). length q.buffer) (sym same) ∙ kept),
       )
 
-  pub calls_turn : made < 100 → r.steps < 2 ^ 32 → is_unfinished (answer_meant r.answer) ≡ true → Calling bytes (made + 1) (steps + r.steps) r.length left
+  pub calls_turn : made < 100 → more < 2 ^ 32 → answer ≡ says unfinished → Calling bytes (made + 1) (steps + more) length_left left
   calls_turn h small e = record {
     within = omega arith;
     few = omega (arith, inv.few);
     short = call_short;
     long = kept ∙ inv.long;
     decides =
-        one_more h ∙ ap (λ (a : Answer Verdict). call_on bytes (100 - (made + 1)) (total a (steps + r.steps) r.length left)) (is_unfinished_lem (answer_meant r.answer) e);
+        one_more h ∙ ap (λ (a : Answer Verdict). call_on bytes (100 - (made + 1)) (total a (steps + more) length_left left)) e;
   }
 
-  pub calls_stop : made < 100 → is_unfinished (answer_meant r.answer) ≡ false
-      → total (answer_meant r.answer) (steps + r.steps) r.length left ≡ call_on bytes call_limit not_called
+  pub calls_stop : made < 100 → is_unfinished answer ≡ false
+      → total answer (steps + more) length_left left ≡ call_on bytes call_limit not_called
   calls_stop h e =
-      sym (one_more h ∙ finished bytes (100 - (made + 1)) (total (answer_meant r.answer) (steps + r.steps) r.length left) e)
+      sym (one_more h ∙ finished bytes (100 - (made + 1)) (total answer (steps + more) length_left left) e)
 
 pub calls_spent : {bytes : List ℕ} {made steps size : ℕ} {buffer : List ℕ} → Calling bytes made steps size buffer → 100 ≤ made
     → total (says unfinished) steps size buffer ≡ call_on bytes call_limit not_called

@@ -1,5 +1,5 @@
 // The search in calls of one allowance, each from where the last one stopped.
-ghost use Rattle.std.specs.Prelude.{◌≤◌, IfOk};
+ghost use Rattle.std.specs.Prelude.{◌≡◌, ◌≤◌, IfOk};
 ghost use Rattle.std.proofs.Math.ListN as ListN;
 ghost use Rattle.model.specs.Verdict.{call_limit, not_called, call_on};
 ghost use Rattle.verdict.specs.Totals.{Came};

@@ -4,14 +4,11 @@ use mathlib.Core.Path.{refl}
 use Rattle.verdict.proofs.TextLaws.{writes_start, writes_turn, writes_end, appends_same, for_bytes}
 use Rattle.verdict.proofs.text.write_word.Goals as goal
 
-pub loop-i-init : goal.loop-i-init
-loop-i-init c = (refl, writes_start)
+pub loop-byte-init : goal.loop-byte-init
+loop-byte-init c = (refl, writes_start)
 
-pub loop-i-smaller : goal.loop-i-smaller
-loop-i-smaller c = omega arith
-
-pub loop-i-preserved : goal.loop-i-preserved
-loop-i-preserved c = (refl, writes_turn c.loop-i.invariant.1 (omega arith) c.write_byte-next.auto.out c.write_byte-next.ensures)
+pub loop-byte-preserved : goal.loop-byte-preserved
+loop-byte-preserved c = (refl, writes_turn c.loop-byte.invariant.1 (omega arith) c.write_byte-next.auto.out c.write_byte-next.ensures)
 
 pub returns : goal.returns
-returns c = appends_same (for_bytes _) (writes_end c.loop-i.invariant.1 (omega arith))
+returns c = appends_same (for_bytes _) (writes_end c.loop-byte.invariant.1 (omega arith))

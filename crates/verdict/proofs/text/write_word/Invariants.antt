@@ -5,5 +5,5 @@ use lib.ListN.{length}
 use Rattle.verdict.proofs.TextLaws.{Writing}
 use Rattle.verdict.proofs.text.write_word.Given as goal
 
-abbrev pub invariant-loop-i : goal.invariant-loop-i
-invariant-loop-i l = (l.i-end ≡ length l.word) × Writing l.initial.out l.at l.word (λ b. b ∷ []) l.i l.out l.next
+abbrev pub invariant-loop-byte : goal.invariant-loop-byte
+invariant-loop-byte l = (l.byte-index-end ≡ length l.word) × Writing l.initial.out l.at l.word (λ b. b ∷ []) l.byte-index l.out l.next

@@ -1,14 +1,10 @@
 -- Each arm writes its line piece by piece.
 use Rattle.verdict.proofs.TextLaws.{appends_both, appends_same}
+use Rattle.std.proofs.Common.{rules}
 use mathlib.Core.Path.{sym}
-use lib.Seq.{length-take-le}
 use Rattle.model.specs.Verdict.{lines}
 use Rattle.verdict.proofs.LineLaws.{lines_told}
-use Rattle.verdict.proofs.write_lines.Goals as goal
-
-pub slice_bounds-write_order-end : goal.slice_bounds-write_order-end
-slice_bounds-write_order-end c =
-    sym (length-take-le c.args.total.length c.args.total.buffer c.requires)
+use Rattle.verdict.proofs.write_total.Goals as goal
 
 pub returns-in-Allowed : goal.returns-in-Allowed
 unfolding lines
@@ -27,9 +23,3 @@ unfolding lines
 returns-in-Unfinished c =
     appends_same (lines_told c.args.total c.in-Unfinished.is)
     (appends_both c.write_word-line-in-Unfinished.ensures c.write_steps-in-Unfinished.ensures)
-
-pub returns-in-Refused : goal.returns-in-Refused
-unfolding lines
-returns-in-Refused c =
-    appends_same (lines_told c.args.total c.in-Refused.is)
-    (appends_both (appends_both c.write_word-word-in-Refused.ensures c.write_number-number.ensures) c.write_word.ensures)
