@@ -25,7 +25,7 @@ impl Prefix<'_> {
     {
         match rule {
             9 | 10 | 12 | 14 | 16 => self.pairs_broken(rule),
-            11 => sights_broken(self.bytes, *self.execution, self.places),
+            11 => sights_broken(self.bytes, self.execution, self.places),
             _ => self.links_broken(rule),
         }
     }
