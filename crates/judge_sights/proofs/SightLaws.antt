@@ -18,7 +18,7 @@ use Rattle.record_decoded.specs.declared.types.Execution.{Execution}
 use Rattle.record_decoded.specs.Decoded.{data_of, initial_of, instruction_at}
 use Rattle.relation_places.specs.Places.{placed}
 use Rattle.judge_sights.specs.declared.Latest.{Latest}
-use Rattle.judge_sights.specs.Sights.{seen_byte, wrote_byte, data_byte, writes_to, same_processor, read_no, local_no, remote_no, makes_local, may_give, visible_by, later_by, latest_with, read_by, read_at, sight_broken, load_broken}
+use Rattle.judge_sights.specs.Sights.{seen_byte, wrote_byte, data_byte, writes_to, same_processor, read_no, may_give, visible_by, later_by, latest_with, read_by, read_at, sight_broken, load_broken}
 
 -- a byte past an instruction's size, past the sixteen that the arrays hold, and one that is there
 module _ (is : Instructions) (i from k : ℕ) where
@@ -69,21 +69,6 @@ module _ (is : Instructions) (i k : ℕ) (kind : Kind) (k_is : kind ≡ kind_of 
   wrote_there h from f =
       sym (ap₂ (λ (b : Bool) (n : ℕ). get_or (cond b (take (get_or is.sizes i 0) (drop n (data_of is.bytes i))) []) k 0) (ap is_store (sym k_is) ∙ h) (sym (f ∙ ap written_from k_is)))
 
--- whether an instruction is a store to a byte
-module _ (is : Instructions) (w address : ℕ) (kind : Kind) (k_is : kind ≡ kind_of (get_or is.kinds w 0)) where
-  pub writes_none : is_store kind ≡ false → false ≡ writes_to is address w
-  unfolding writes_to instruction_at
-  writes_none h = rw (← k_is, h)
-
-  pub writes_above : address < get_or is.addresses w 0 → false ≡ writes_to is address w
-  unfolding writes_to accesses instruction_at
-  writes_above h = rw (lt-leb (get_or is.addresses w 0) address h) (sym (and-false (is_store (kind_of (get_or is.kinds w 0)))))
-
-  pub writes_there : is_store kind ≡ true → get_or is.addresses w 0 ≤ address
-      → ltb address (get_or is.addresses w 0 + get_or is.sizes w 0) ≡ writes_to is address w
-  unfolding writes_to accesses instruction_at
-  writes_there h l = rw (← k_is, h, le-leb (get_or is.addresses w 0) address l)
-
 -- one store more
 module _ (is : Instructions) (places : List ℕ) (load address : ℕ) (local : Bool) (w : ℕ) (latest : Latest) where
   pub latest_none : may_give is load address local w ≡ false → latest ≡ latest_with is places load address local w latest
@@ -113,27 +98,6 @@ gives_from is load address local w from f h =
     let a = and_parts (is_store (instruction_at is w).kind) (accesses (instruction_at is w) address) m.0 in
     let l = and_parts (leb (get_or is.addresses w 0) address) (ltb address (get_or is.addresses w 0 + get_or is.sizes w 0)) a.1 in
     omega (arith, leb-true (get_or is.addresses w 0) address l.0)
-
--- whether a store makes the load local
-module _ (is : Instructions) (places : List ℕ) (load address w : ℕ) where
-  pub local_none : writes_to is address w ≡ false → false ≡ makes_local is places load address w
-  unfolding makes_local
-  local_none h = rw h
-
-  pub local_other : same_processor is load w ≡ false → false ≡ makes_local is places load address w
-  unfolding makes_local
-  local_other h = rw h (sym (and-false (writes_to is address w)))
-
-  module _ (lv r : ℕ) (lv_is : lv ≡ local_no is w) (r_is : r ≡ read_no is load) where
-    pub local_late : ltb (placed places lv) (placed places r) ≡ false → false ≡ makes_local is places load address w
-    unfolding makes_local
-    local_late h =
-        rw (← lv_is, ← r_is, h, and-false (same_processor is load w)) (sym (and-false (writes_to is address w)))
-
-    pub local_is : writes_to is address w ≡ true → same_processor is load w ≡ true → ltb (placed places lv) (placed places r) ≡ true
-        → (rv : ℕ) → rv ≡ remote_no is load w → ltb (placed places r) (placed places rv) ≡ makes_local is places load address w
-    unfolding makes_local
-    local_is h k l rv rv_is = rw (← lv_is, ← r_is, ← rv_is, h, k, l)
 
 -- one byte of a load
 module _ (bytes : List ℕ) (x : Execution) (places : List ℕ) (load k p : ℕ) (p_is : p ≡ placed places (read_no x.instructions load)) where
