@@ -150,6 +150,7 @@ impl Prefix<'_> {
     }
 
     // Whether two instructions, by their marks, break the rule.
+    #[tactic(auto, unfolding(crate::specs::Tests::pair_broken))]
     fn pair_broken(&self, rule: u8, marks: u16, v: InstructionNo, w: InstructionNo) -> bool
         requires { (v.0 < 40) × (w.0 < 40) × (self.now.execution.now.processors ≤ 255) }
         ensures { result ≡ pair_broken self.now.places.now rule marks self.now.operations.now.count self.now.execution.now.processors (instruction_at self.now.execution.now.instructions v.0) (instruction_at self.now.execution.now.instructions w.0) }

@@ -56,6 +56,7 @@ fn data_byte(is: &Instructions, i: InstructionNo, from: usize, k: usize) -> u8
 }
 
 // Byte k of what instruction i saw.
+#[tactic(auto, unfolding(crate::specs::Sights::seen_byte, crate::specs::Sights::data_byte, model::specs::Questions::seen_of, record_decoded::specs::Decoded::instruction_at))]
 fn seen_byte(is: &Instructions, i: InstructionNo, k: usize) -> u8
     requires { i.0 < 40 }
     ensures { result ≡ seen_byte is.now i.0 k }
@@ -68,6 +69,7 @@ fn seen_byte(is: &Instructions, i: InstructionNo, k: usize) -> u8
 }
 
 // Byte k of what instruction i wrote.
+#[tactic(auto, unfolding(crate::specs::Sights::wrote_byte, crate::specs::Sights::data_byte, model::specs::Questions::wrote_of, record_decoded::specs::Decoded::instruction_at))]
 fn wrote_byte(is: &Instructions, i: InstructionNo, k: usize) -> u8
     requires { i.0 < 40 }
     ensures { result ≡ wrote_byte is.now i.0 k }
@@ -189,6 +191,7 @@ impl Sight<'_> {
     }
 
     // The latest before R, store w taken in.
+    #[tactic(auto, unfolding(crate::specs::Sights::latest_with, crate::specs::Sights::later_by, record_decoded::specs::Decoded::instruction_at))]
     fn latest_with(&self, w: InstructionNo, local: bool, latest: Latest) -> Latest
         requires { (w.0 < 40) × (self.now.load.0 < 40) }
         ensures { result ≡ latest_with self.now.instructions.now self.now.places.now self.now.load.0 self.now.address local w.0 latest }
@@ -234,6 +237,7 @@ impl Sight<'_> {
 }
 
 // Whether the load stands and its byte k is not the one that the rule gives. Of the record's initial bytes it reads that of the byte's own address.
+#[tactic(auto, unfolding(crate::specs::Sights::sight_broken, crate::specs::Sights::read_at, record_decoded::specs::Decoded::instruction_at))]
 fn sight_broken<'a>(
     bytes: &[u8],
     x: &'a Execution,
