@@ -96,13 +96,13 @@ struct Sight<'a> {
     places: &'a [u8; Position::LIMIT],
     load: InstructionNo,
     address: usize,
+    ghost small: { (instructions.now.count ≤ 40) × (load.0 < 40) },
 }
 
 impl Sight<'_> {
     // The number of the load's R.
     #[tactic(auto, unfolding(crate::specs::Sights::read_no))]
     fn read_no(&self) -> OperationNo
-        requires { self.now.load.0 < 40 }
         ensures { result.0 ≡ read_no self.now.instructions.now self.now.load.0 }
     {
         number_at(*self.instructions, self.load, Role::R)
@@ -120,7 +120,7 @@ impl Sight<'_> {
     // The number of store w's RV to the load's processor.
     #[tactic(auto, unfolding(crate::specs::Sights::remote_no, record_decoded::specs::Decoded::instruction_at))]
     fn remote_no(&self, w: InstructionNo) -> OperationNo
-        requires { (w.0 < 40) × (self.now.load.0 < 40) }
+        requires { w.0 < 40 }
         ensures { result.0 ≡ remote_no self.now.instructions.now self.now.load.0 w.0 }
     {
         let processor = wide(self.instructions.processors[self.load.0]);
@@ -141,7 +141,7 @@ impl Sight<'_> {
     // Whether instruction w is of the load's processor.
     #[tactic(auto, unfolding(crate::specs::Sights::same_processor, record_decoded::specs::Decoded::instruction_at))]
     fn is_own(&self, w: InstructionNo) -> bool
-        requires { (w.0 < 40) × (self.now.load.0 < 40) }
+        requires { w.0 < 40 }
         ensures { result ≡ same_processor self.now.instructions.now self.now.load.0 w.0 }
     {
         let processors = &self.instructions.processors;
@@ -151,7 +151,7 @@ impl Sight<'_> {
     // Whether store w makes the load local for the byte.
     #[tactic(auto, unfolding(crate::specs::Sights::makes_local))]
     fn makes_local(&self, w: InstructionNo) -> bool
-        requires { (w.0 < 40) × (self.now.load.0 < 40) }
+        requires { w.0 < 40 }
         ensures { result ≡ makes_local self.now.instructions.now self.now.places.now self.now.load.0 self.now.address w.0 }
     {
         self.writes_to(w)
@@ -162,7 +162,6 @@ impl Sight<'_> {
 
     // Whether the load is local for the byte.
     fn is_local(&self) -> bool
-        requires { (self.now.instructions.now.count ≤ 40) × (self.now.load.0 < 40) }
         ensures { result ≡ local_by self.now.instructions.now self.now.places.now self.now.load.0 self.now.address }
     {
         (0..self.instructions.count).any(|w| self.makes_local(InstructionNo(w)))
@@ -171,7 +170,7 @@ impl Sight<'_> {
     // Whether store w may give the load its byte.
     #[tactic(auto, unfolding(crate::specs::Sights::may_give))]
     fn may_give(&self, w: InstructionNo, local: bool) -> bool
-        requires { (w.0 < 40) × (self.now.load.0 < 40) }
+        requires { w.0 < 40 }
         ensures { result ≡ may_give self.now.instructions.now self.now.load.0 self.now.address local w.0 }
     {
         self.writes_to(w) && (!local || self.is_own(w))
@@ -180,7 +179,7 @@ impl Sight<'_> {
     // The operation that makes store w visible to the load.
     #[tactic(auto, unfolding(crate::specs::Sights::visible_by))]
     fn visible_by(&self, w: InstructionNo, local: bool) -> OperationNo
-        requires { (w.0 < 40) × (self.now.load.0 < 40) }
+        requires { w.0 < 40 }
         ensures { result.0 ≡ visible_by self.now.instructions.now self.now.load.0 local w.0 }
     {
         if local {
@@ -193,7 +192,7 @@ impl Sight<'_> {
     // The latest before R, store w taken in.
     #[tactic(auto, unfolding(crate::specs::Sights::latest_with, crate::specs::Sights::later_by, record_decoded::specs::Decoded::instruction_at))]
     fn latest_with(&self, w: InstructionNo, local: bool, latest: Latest) -> Latest
-        requires { (w.0 < 40) × (self.now.load.0 < 40) }
+        requires { w.0 < 40 }
         ensures { result ≡ latest_with self.now.instructions.now self.now.places.now self.now.load.0 self.now.address local w.0 latest }
     {
         if !self.may_give(w, local) {
@@ -213,7 +212,6 @@ impl Sight<'_> {
 
     // The byte of the latest store before R; with none, the initial byte.
     fn latest_byte(&self, local: bool, initial: u8) -> u8
-        requires { (self.now.instructions.now.count ≤ 40) × (self.now.load.0 < 40) }
         ensures { result ≡ latest_by self.now.instructions.now self.now.places.now self.now.load.0 self.now.address local initial }
     {
         let mut latest = Latest {
@@ -229,7 +227,6 @@ impl Sight<'_> {
     // The byte that the rule has the load see, where the address has this initial byte.
     #[tactic(auto, unfolding(crate::specs::Sights::read_by))]
     fn byte_read(&self, initial: u8) -> u8
-        requires { (self.now.instructions.now.count ≤ 40) × (self.now.load.0 < 40) }
         ensures { result ≡ read_by self.now.instructions.now self.now.places.now self.now.load.0 self.now.address initial }
     {
         self.latest_byte(self.is_local(), initial)
