@@ -1,4 +1,6 @@
 // A prefix of an execution's operations, as the rules are asked of it.
+ghost use Rattle.std.specs.Prelude.{◌≤◌};
+
 use record_decoded::position::Position;
 use record_decoded::types::{Execution, MOST_INSTRUCTIONS};
 use relation_links::operations::Operations;
@@ -11,4 +13,5 @@ pub struct Prefix<'a> {
     pub operations: &'a Operations,
     pub marks: &'a [[u16; MOST_INSTRUCTIONS]; MOST_INSTRUCTIONS],
     pub places: &'a [u8; Position::LIMIT],
+    ghost small: { (execution.now.instructions.count ≤ 40) × (execution.now.lines.count ≤ 8) × (execution.now.processors ≤ 255) × (operations.now.count ≤ 128) },
 }

@@ -12,9 +12,8 @@ fn attribute_at(lines: Lines, line: usize) -> Attribute
     requires { lines.count ≤ 8 }
     ensures { attribute_meant result ≡ get_or (attributes_of lines) line WC }
 {
-    let attributes = lines.attributes;
     if line < lines.count {
-        attribute_of(attributes[line])
+        attribute_of(lines.attributes[line])
     } else {
         Attribute::WC
     }
@@ -39,9 +38,5 @@ pub fn attribute_in(lines: Lines, address: u8) -> Attribute
 pub fn is_wb(a: Attribute) -> bool
     ensures { result ≡ is_WB (attribute_meant a) }
 {
-    match a {
-        Attribute::WB => true,
-        Attribute::UC(_) => false,
-        Attribute::WC => false,
-    }
+    matches!(a, Attribute::WB)
 }

@@ -3,8 +3,8 @@ use Prim.Native.Nat.{ℕ, ◌+◌, ◌<◌, ◌≤◌}
 use native.Mathlib.Nat.{le_antisymm}
 use native.Mathlib.Numerals.{add-one}
 use native.Mathlib.Omega.{arith}
-use mathlib.Core.Path.{◌≡◌, refl, sym, ap, ◌∙◌}
-use mathlib.Core.Bool.{Bool, true, false, ◌||◌, or-false}
+use mathlib.Core.Path.{◌≡◌, refl, ap, ◌∙◌}
+use mathlib.Core.Bool.{Bool, true, false}
 use mathlib.Core.List.{List}
 use lib.Dec.{eqb}
 use Rattle.relation_chain_table.specs.Squares.{mark_of, marked, MarksAre, via, closed_by}
@@ -16,16 +16,6 @@ mark_test false = refl
 
 pub marks_as : {x : ℕ} {b : Bool} → x ≡ mark_of b → eqb x 1 ≡ b
 marks_as {x} {b} h = ap (λ (y : ℕ). eqb y 1) h ∙ mark_test b
-
-module _ (k : ℕ) (r : ℕ → ℕ → Bool) (i j : ℕ) where
-  -- where i leads to k, it leads where k does
-  pub via_taken : {b : Bool} → b ≡ r i k → b ≡ true → (r i j || r k j) ≡ via k r i j
-  unfolding via
-  via_taken {b} h t = rw (sym h ∙ t)
-
-  pub via_left : {b : Bool} → b ≡ r i k → b ≡ false → r i j ≡ via k r i j
-  unfolding via
-  via_left {b} h t = rw (sym h ∙ t) (sym (or-false (r i j)))
 
 -- The invariant: the square is closed by way of the numbers below k.
 pub record Closing (n : ℕ) (links : List (List ℕ)) (k : ℕ) (m : List (List ℕ)) : Type 0 where

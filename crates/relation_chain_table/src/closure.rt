@@ -25,6 +25,7 @@ fn joined_row(
 }
 
 // The row of an operation, joined with that of another where it leads there.
+#[tactic(auto, unfolding(crate::specs::Squares::via))]
 fn row_via(
     m: &[[u8; Position::LIMIT]; Position::LIMIT],
     n: usize,

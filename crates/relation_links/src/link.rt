@@ -60,6 +60,7 @@ fn is_same_visibility(a: u8, b: u8) -> bool
 }
 
 // The mark that a rule asks for; rules without a link ask for SAME.
+#[tactic(auto, unfolding(crate::specs::Links::rule_mark))]
 pub fn rule_mark(rule: u8) -> u16
     ensures { (result ≡ rule_mark rule) × (0 < result) }
 {
@@ -82,6 +83,7 @@ fn is_end(semaphore: bool, role: u8) -> bool
 }
 
 // What a rule asks of the roles of two operations, the first of `processor`, by the marks of their instructions.
+#[tactic(auto, unfolding(crate::specs::Links::roles_link))]
 pub fn roles_link(rule: u8, marks: u16, processor: u8, a: u8, b: u8) -> bool
     ensures { result ≡ roles_link rule marks processor (role_numbered a) (role_numbered b) }
 {
@@ -107,6 +109,7 @@ pub fn roles_link(rule: u8, marks: u16, processor: u8, a: u8, b: u8) -> bool
 }
 
 // The link of a rule between two operations, by the marks of their instructions and their roles.
+#[tactic(auto, unfolding(crate::specs::Links::link_by))]
 pub fn link(rule: u8, marks: u16, processor: u8, a: u8, b: u8) -> bool
     ensures { result ≡ link_by rule marks processor (role_numbered a) (role_numbered b) }
 {

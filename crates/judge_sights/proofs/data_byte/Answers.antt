@@ -2,18 +2,15 @@
 use native.Mathlib.Omega.{arith}
 use Rattle.judge_sights.proofs.SightLaws.{byte_past, byte_last, byte_there}
 use Rattle.judge_sights.proofs.data_byte.Goals as goal
+use Rattle.judge_sights.proofs.data_byte.Goals.{else-k-size_of-via-then-k-size_of+else-k-from, else-k-size_of-via-else-k-size_of}
 
-pub returns-then-size-k : goal.returns-then-size-k
-returns-then-size-k c =
-    let a = c.args in
-    byte_past a.is a.i.0 a.from a.k (omega arith)
+pub returns-then-k-from : goal.returns-then-k-from
+returns-then-k-from c = byte_there c.args.is.now c.args.i.0 c.args.from c.args.k (omega arith) (omega arith)
 
-pub returns-then-from-k : goal.returns-then-from-k
-returns-then-from-k c =
+pub returns-else-k-size_of : goal.returns-else-k-size_of
+returns-else-k-size_of c =
     let a = c.args in
-    byte_last a.is a.i.0 a.from a.k (omega arith) c.if-from-k.true
-
-pub returns : goal.returns
-returns c =
-    let a = c.args in
-    byte_there a.is a.i.0 a.from a.k (omega arith) (omega arith)
+    elim c.else-k-size_of.branch [
+      | else-k-size_of-via-then-k-size_of+else-k-from w ↦ byte_last a.is.now a.i.0 a.from a.k (omega arith) w.if-k-from.false
+      | else-k-size_of-via-else-k-size_of w ↦ byte_past a.is.now a.i.0 a.from a.k (omega (arith, w.if-k-size_of.false, c.size_of.ensures.0))
+    ]

@@ -1,41 +1,20 @@
--- The loop asks each byte of a load.
-use mathlib.Core.Path.{sym, ◌∙◌}
-use mathlib.Core.Bool.{true, false}
-use Rattle.base.proofs.Tests.{seeks, passes_by, meets, finds_none}
+-- A load, some byte of which is another.
+use borrow.Author.Tests.{tests}
+use Rattle.std.proofs.Common.{rules}
 use Rattle.record_decoded.specs.Kinds.{meant}
+use Rattle.record_decoded.specs.Decoded.{instruction_at}
+use Rattle.relation_places.proofs.Ranges.{any_over_range}
 use Rattle.judge_sights.proofs.SightLaws.{load_none, load_is}
-use native.Mathlib.Omega.{arith}
 use Rattle.judge_sights.proofs.load_broken.Goals as goal
 
-pub returns-then-not-is_load : goal.returns-then-not-is_load
-returns-then-not-is_load c =
-    let a = c.args in
-    load_none a.bytes.now a.x a.places.now a.i.0 (meant c.kind_of-kind.result) c.kind_of-kind.ensures
-    (sym c.is_load.ensures ∙ c.if-not-is_load.true)
+pub returns-then-is_load : goal.returns-then-is_load
+unfolding instruction_at
+returns-then-is_load c =
+    load_is c.args.bytes.now c.args.x.now c.args.places.now c.args.i.0 (meant c.kind_at.result) c.kind_at.ensures (search rules) c.size_of.result c.size_of.ensures.0 c.any.result
+    (any_over_range _ _ _ _ c.any.result c.any.ensures.ran (λ x b q k. search (rules, tests)))
 
-pub loop-k-init : goal.loop-k-init
-loop-k-init c = (c.size_of-size.ensures.0, c.size_of-size.ensures.1, seeks)
-
-pub returns-then-sight_broken : goal.returns-then-sight_broken
-returns-then-sight_broken c =
-    let a = c.args in
-    load_is a.bytes.now a.x a.places.now a.i.0 (meant c.kind_of-kind.result)
-    c.kind_of-kind.ensures
-    (sym c.is_load.ensures ∙ c.if-not-is_load.false)
-    c.size_of-size.result c.size_of-size.ensures.0 true
-    (meets c.loop-k.invariant.2 c.loop-k-test.true c.sight_broken.ensures c.if-sight_broken.true)
-
-pub loop-k-smaller : goal.loop-k-smaller
-loop-k-smaller c = omega arith
-
-pub loop-k-preserved : goal.loop-k-preserved
-loop-k-preserved c = (c.size_of-size.ensures.0, c.size_of-size.ensures.1, passes_by c.loop-k.invariant.2 c.loop-k-test.true c.sight_broken.ensures c.if-sight_broken.false)
-
-pub returns : goal.returns
-returns c =
-    let a = c.args in
-    load_is a.bytes.now a.x a.places.now a.i.0 (meant c.kind_of-kind.result)
-    c.kind_of-kind.ensures
-    (sym c.is_load.ensures ∙ c.if-not-is_load.false)
-    c.size_of-size.result c.size_of-size.ensures.0 false
-    (finds_none c.loop-k.invariant.2 c.loop-k-test.false)
+pub returns-else-is_load : goal.returns-else-is_load
+unfolding instruction_at
+returns-else-is_load c =
+    let none = load_none c.args.bytes.now c.args.x.now c.args.places.now c.args.i.0 (meant c.kind_at.result) c.kind_at.ensures (search rules) in
+    search rules
