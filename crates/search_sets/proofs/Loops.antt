@@ -12,7 +12,9 @@ use Rattle.base.specs.Below.{any_below}
 use Rattle.base.specs.Bits.{bit}
 use Rattle.base.proofs.Bools.{agree, and_parts, and_both, split, is_false}
 use Rattle.base.proofs.Tests.{any_passes, some_at}
-use Rattle.search_sets.specs.Set.{holds, LowestMember, TakenOut, passing}
+use Rattle.std.specs.Prelude.{Option, Some, None}
+use Rattle.std.specs.Option.{unwrap_or}
+use Rattle.search_sets.specs.Set.{FirstFrom, holds, LowestMember, TakenOut, passing}
 use Rattle.search_sets.proofs.Laws.{zero_has}
 
 -- the empty set
@@ -32,6 +34,11 @@ any_skips q a (suc b) l none =
     ⊎_elim (λ (e : a ≡ suc b). ap (λ (k : ℕ). any_below k q) (sym e))
     (λ (h : a < suc b). ap₂ ◌||◌ (any_skips q a b (omega arith) (λ i f g. none i f (omega arith))) (none b (omega arith) (omega arith)) ∙ or-false (any_below a q))
     (eq-or-lt_of_le l)
+
+-- the lowest member, or 128 where there is none
+pub first_or : (p : ℕ → Bool) (from : ℕ) (r : Option ℕ) → FirstFrom p from r → LowestMember p from 128 (unwrap_or r 128)
+first_or p from (Some m) f = f.1
+first_or p from None f = f
 
 -- a set that has no lowest member has none
 module _ (lo hi : ℕ) (empty : LowestMember (holds lo hi) 0 128 128) where

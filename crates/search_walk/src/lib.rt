@@ -11,7 +11,7 @@ use record_decoded::types::{OperationNo, wide};
 use relation_places::ABSENT;
 use search_admit::{REPLACED, TABLE, WORDS, is_refused, unwrite, write};
 use search_enabled::{AFFECTED, enabled_after, open_after};
-use search_sets::Set;
+use search_sets::{BOUND, Set};
 
 // The sets of a prefix: the operations that stand, those that are enabled behind them, and those of these that may follow as far as rule 12 goes.
 #[derive(Clone, Copy, Debug, PartialEq, Eq)]
@@ -139,24 +139,22 @@ pub fn walk(
     let mut left = n * n;
     while left > 0 {
         left -= 1;
-        match candidates.first_from(c) {
-            Some(x) if x < n => {
-                let o = OperationNo(x);
-                if enter(k, places, levels, words, replaced, rows, affected, o) {
-                    position[k] = x as u8;
-                    return Some(k + 1);
-                }
-                c = x + 1;
+        let x = candidates.first_from(c).unwrap_or(BOUND);
+        if x < n {
+            let o = OperationNo(x);
+            if enter(k, places, levels, words, replaced, rows, affected, o) {
+                position[k] = x as u8;
+                return Some(k + 1);
             }
-            _ => {
-                if k == 0 {
-                    return None;
-                }
-                k -= 1;
-                let removed = remove_entry(position, k, places, words, replaced, rows);
-                c = removed.0 + 1;
-                candidates = levels[k].candidates;
+            c = x + 1;
+        } else {
+            if k == 0 {
+                return None;
             }
+            k -= 1;
+            let removed = remove_entry(position, k, places, words, replaced, rows);
+            c = removed.0 + 1;
+            candidates = levels[k].candidates;
         }
     }
     None
