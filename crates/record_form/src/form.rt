@@ -21,23 +21,14 @@ fn touches(address: u8, size: u8, line: usize) -> bool
 {
     let first = wide(address) / 8;
     let lines = (wide(size) + 7) / 8;
-    if first <= line {
-        line < first + lines
-    } else {
-        false
-    }
+    first <= line && line < first + lines
 }
 
 fn is_touched(is: Instructions, line: usize) -> bool
     requires { is.count ≤ 40 }
     ensures { result ≡ touched (instructions_of is) line }
 {
-    for i in 0..is.count {
-        if touches(is.addresses[i], is.sizes[i], line) {
-            return true;
-        }
-    }
-    false
+    (0..is.count).any(|i| touches(is.addresses[i], is.sizes[i], line))
 }
 
 const ZERO_LINE: [u8; LINE_LENGTH] = [0; LINE_LENGTH];

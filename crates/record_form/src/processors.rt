@@ -72,7 +72,7 @@ fn owner(is: Instructions, i: usize) -> usize
 fn lowered(b: u8, n: usize) -> u8
     ensures { result ≡ b - n }
 {
-    if wide(b) <= n { 0 } else { b - n as u8 }
+    wide(b).saturating_sub(n) as u8
 }
 
 // Above the number of every instruction.
