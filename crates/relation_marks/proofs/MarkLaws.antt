@@ -1,16 +1,16 @@
 -- Laws of the marks of two instructions.
 use Prim.Native.Nat.{ℕ, zero, suc, ◌+◌, ◌-◌, ◌≤◌, min, max}
 use native.Mathlib.Omega.{arith}
-use native.Mathlib.Numerals.{add-one}
-use Rattle.std.specs.List.{list_any, range_with_len}
+use Rattle.base.specs.Below.{any_below}
+use Rattle.base.proofs.Tests.{any_numbered}
 use Rattle.std.proofs.lemmas.Bool.Decides.{nat_tests}
 use mathlib.Core.Path.{◌≡◌, refl, sym, ap, ap₂, ◌∙◌}
-use mathlib.Core.Bool.{Bool, false, ◌&&◌, ◌||◌}
-use mathlib.Core.List.{List, [], ◌∷◌, map}
+use mathlib.Core.Bool.{Bool, false, ◌&&◌}
+use mathlib.Core.List.{List, [], ◌∷◌}
 use lib.ListN.{length, get_or}
 use lib.Dec.{eqb, leb, ltb}
 use borrow.Author.Tests.{lt-ltb, leb-true, leb-false, ltb-true, ltb-false, eqb-true}
-use Rattle.base.specs.Lists.{all, any, keep, count, below, member}
+use Rattle.base.specs.Lists.{all, keep, count, member}
 use Rattle.base.specs.Bits.{packed, packed_on}
 use Rattle.base.proofs.Bools.{split, agree}
 use Rattle.base.proofs.Lists.{all_member, length_count}
@@ -94,15 +94,6 @@ program_marks_few j k = few (member (marks j k) 2) (member (marks j k) 3) (membe
     few b c d = grind (arith, nat_tests)
 
 -- a pair is given when some entry of the arrays is it
-module _ (ps : Pairs) (m n : ℕ) where
-  abbrev pub is_given_at : ℕ → Bool
-  is_given_at k = eqb (get_or ps.earlier k 0) m && eqb (get_or ps.later k 0) n
-
-  entries : (from few : ℕ) → list_any is_given_at (range_with_len from few) ≡ any (λ p. eqb p.0 m && eqb p.1 n) (map (pair_at ps) (count from few))
-  unfolding any count pair_at
-  entries from zero = refl
-  entries from (suc few) = ap (λ (t : Bool). is_given_at from || t) (ap (λ (a : ℕ). list_any is_given_at (range_with_len a few)) (add-one from) ∙ entries (suc from) few)
-
-  pub pair_by_index : list_any is_given_at (range_with_len 0 ps.count) ≡ given_pair (pairs_of ps) m n
-  unfolding given_pair pairs_of below
-  pair_by_index = entries 0 ps.count
+pub pair_by_index : (ps : Pairs) (m n : ℕ) → any_below ps.count (λ k. eqb (get_or ps.earlier k 0) m && eqb (get_or ps.later k 0) n) ≡ given_pair (pairs_of ps) m n
+unfolding given_pair pairs_of pair_at
+pair_by_index ps m n = sym (any_numbered (λ p. eqb p.0 m && eqb p.1 n) (pair_at ps) ps.count)

@@ -106,6 +106,7 @@ fn marks_by(between: Between, first: Access, second: Access) -> u16
         + SECOND_SEMAPHORE * u16::from(is_semaphore(second.kind))
 }
 
+// Instruction i as an access; an mf is asked as one, of address 0.
 fn access_of(x: &Execution, i: usize) -> Access
     requires { (i < 40) × (x.now.lines.count ≤ 8) }
     ensures kind { meant result.kind ≡ kind_of (get_or x.now.instructions.kinds i 0) }
