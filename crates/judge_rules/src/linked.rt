@@ -33,7 +33,7 @@ impl Prefix<'_> {
 
     // Whether an operation stands against a link of the rule to some operation.
     fn links_broken_from(&self, rule: u8, from: OperationNo) -> bool
-        requires { (from.0 < self.now.operations.now.count) × ((o : ℕ) → o < self.now.operations.now.count → get_or self.now.operations.now.owners o 0 < 40) }
+        requires { (self.now.operations.now.count ≤ 128) × (from.0 < self.now.operations.now.count) × ((o : ℕ) → o < self.now.operations.now.count → get_or self.now.operations.now.owners o 0 < 40) }
         ensures { result ≡ any_below self.now.operations.now.count (stands_against self.now.places.now rule self.now.operations.now.owners self.now.operations.now.roles self.now.execution.now.instructions.processors self.now.marks.now (get_or self.now.operations.now.owners from.0 0) from.0) }
     {
         let i = InstructionNo(wide(self.operations.owners[from.0]));
@@ -42,7 +42,7 @@ impl Prefix<'_> {
 
     // Whether some two operations stand against a link of the rule.
     pub fn links_broken(&self, rule: u8) -> bool
-        requires { (o : ℕ) → o < self.now.operations.now.count → get_or self.now.operations.now.owners o 0 < 40 }
+        requires { (self.now.operations.now.count ≤ 128) × ((o : ℕ) → o < self.now.operations.now.count → get_or self.now.operations.now.owners o 0 < 40) }
         ensures { result ≡ links_broken self.now.places.now rule self.now.operations.now.count self.now.operations.now.owners self.now.operations.now.roles self.now.execution.now.instructions.processors self.now.marks.now }
     {
         (0..self.operations.count).any(|a| self.links_broken_from(rule, OperationNo(a)))

@@ -19,7 +19,7 @@ const RULES: u8 = 16;
 impl Prefix<'_> {
     // Whether the prefix breaks a rule from 1 to 16.
     fn rule_broken(&self, rule: u8) -> bool
-        requires bounds { (1 ≤ rule) × (rule ≤ 16) }
+        requires bounds { (1 ≤ rule) × (rule ≤ 16) × (self.now.execution.now.instructions.count ≤ 40) × (self.now.execution.now.lines.count ≤ 8) × (self.now.execution.now.processors ≤ 8) × (self.now.operations.now.count ≤ 128) }
         requires compiled { Compiled self.now.execution.now self.now.operations.now self.now.marks.now }
         ensures { (n : ℕ) (xs : List ℕ) → Placed n xs self.now.places.now → result ≡ any (broken xs) (get_or (rules (execution_of self.now.bytes.now self.now.execution.now)) (rule - 1) []) }
     {

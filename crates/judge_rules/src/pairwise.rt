@@ -62,7 +62,7 @@ impl Prefix<'_> {
 
     // Whether some RV of v is before that of w to the same processor.
     fn remote_before(&self, v: InstructionNo, w: InstructionNo) -> bool
-        requires { (v.0 < 40) × (w.0 < 40) }
+        requires { (v.0 < 40) × (w.0 < 40) × (self.now.execution.now.processors ≤ 255) }
         ensures { result ≡ remote_before self.now.places.now self.now.execution.now.processors (instruction_at self.now.execution.now.instructions v.0) (instruction_at self.now.execution.now.instructions w.0) }
     {
         (0..self.execution.processors).any(|q| self.is_before(
@@ -74,7 +74,7 @@ impl Prefix<'_> {
     // Rule 10: some RV before the other's, and some after.
     #[tactic(auto, unfolding(crate::specs::Tests::remote_turned))]
     fn remote_turned(&self, v: InstructionNo, w: InstructionNo) -> bool
-        requires { (v.0 < 40) × (w.0 < 40) }
+        requires { (v.0 < 40) × (w.0 < 40) × (self.now.execution.now.processors ≤ 255) }
         ensures { result ≡ remote_turned self.now.places.now self.now.execution.now.processors (instruction_at self.now.execution.now.instructions v.0) (instruction_at self.now.execution.now.instructions w.0) }
     {
         self.remote_before(v, w) && self.remote_before(w, v)
@@ -82,7 +82,7 @@ impl Prefix<'_> {
 
     // Whether an operation is one of the RVs of v.
     fn is_remote_of(&self, v: InstructionNo, operation: OperationNo) -> bool
-        requires { v.0 < 40 }
+        requires { (v.0 < 40) × (self.now.execution.now.processors ≤ 255) }
         ensures { result ≡ any_below self.now.execution.now.processors (λ q. eqb (number_of (instruction_at self.now.execution.now.instructions v.0) (RV q)) operation.0) }
     {
         (0..self.execution.processors).any(|q| self.number(v, Role::RV(q)).0 == operation.0)
@@ -90,7 +90,7 @@ impl Prefix<'_> {
 
     // Whether it stands after one of them.
     fn is_after_remote(&self, v: InstructionNo, operation: OperationNo) -> bool
-        requires { v.0 < 40 }
+        requires { (v.0 < 40) × (self.now.execution.now.processors ≤ 255) }
         ensures { result ≡ any_below self.now.execution.now.processors (λ q. before_by self.now.places.now (number_of (instruction_at self.now.execution.now.instructions v.0) (RV q)) operation.0) }
     {
         (0..self.execution.processors).any(|q| self.is_before(
@@ -101,7 +101,7 @@ impl Prefix<'_> {
 
     // Whether it stands before one of them.
     fn is_before_remote(&self, v: InstructionNo, operation: OperationNo) -> bool
-        requires { v.0 < 40 }
+        requires { (v.0 < 40) × (self.now.execution.now.processors ≤ 255) }
         ensures { result ≡ any_below self.now.execution.now.processors (λ q. before_by self.now.places.now operation.0 (number_of (instruction_at self.now.execution.now.instructions v.0) (RV q))) }
     {
         (0..self.execution.processors).any(|q| self.is_before(
@@ -113,7 +113,7 @@ impl Prefix<'_> {
     // Whether it is none of them, and stands after one and before another.
     #[tactic(auto, unfolding(crate::specs::Tests::release_split_by))]
     fn splits_release(&self, v: InstructionNo, operation: OperationNo) -> bool
-        requires { v.0 < 40 }
+        requires { (v.0 < 40) × (self.now.execution.now.processors ≤ 255) }
         ensures { result ≡ release_split_by self.now.places.now self.now.execution.now.processors (instruction_at self.now.execution.now.instructions v.0) operation.0 }
     {
         !self.is_remote_of(v, operation)
@@ -123,7 +123,7 @@ impl Prefix<'_> {
 
     // Rule 12: whether some operation splits the RVs of v.
     fn release_split(&self, v: InstructionNo) -> bool
-        requires { v.0 < 40 }
+        requires { (v.0 < 40) × (self.now.execution.now.processors ≤ 255) }
         ensures { result ≡ release_split self.now.places.now self.now.operations.now.count self.now.execution.now.processors (instruction_at self.now.execution.now.instructions v.0) }
     {
         (0..self.operations.count).any(|o| self.splits_release(v, OperationNo(o)))
@@ -152,7 +152,7 @@ impl Prefix<'_> {
     // Whether two instructions, by their marks, break the rule.
     #[tactic(auto, unfolding(crate::specs::Tests::pair_broken))]
     fn pair_broken(&self, rule: u8, marks: u16, v: InstructionNo, w: InstructionNo) -> bool
-        requires { (v.0 < 40) × (w.0 < 40) }
+        requires { (v.0 < 40) × (w.0 < 40) × (self.now.execution.now.processors ≤ 255) }
         ensures { result ≡ pair_broken self.now.places.now rule marks self.now.operations.now.count self.now.execution.now.processors (instruction_at self.now.execution.now.instructions v.0) (instruction_at self.now.execution.now.instructions w.0) }
     {
         match rule {
@@ -167,7 +167,7 @@ impl Prefix<'_> {
 
     // Whether instruction i breaks the rule with some instruction.
     fn pairs_broken_with(&self, rule: u8, i: InstructionNo) -> bool
-        requires { i.0 < 40 }
+        requires { (self.now.execution.now.instructions.count ≤ 40) × (i.0 < 40) × (self.now.execution.now.processors ≤ 255) }
         ensures { result ≡ any_below self.now.execution.now.instructions.count (λ j. pair_broken self.now.places.now rule (mark_at self.now.marks.now i.0 j) self.now.operations.now.count self.now.execution.now.processors (instruction_at self.now.execution.now.instructions i.0) (instruction_at self.now.execution.now.instructions j)) }
     {
         let marks = &self.marks[i.0];
@@ -181,6 +181,7 @@ impl Prefix<'_> {
 
     // Whether some two instructions break rule 9, 10, 12, 14 or 16.
     pub fn pairs_broken(&self, rule: u8) -> bool
+        requires { (self.now.execution.now.instructions.count ≤ 40) × (self.now.execution.now.processors ≤ 255) }
         ensures { result ≡ pairs_broken self.now.places.now rule self.now.execution.now.instructions self.now.marks.now self.now.operations.now.count self.now.execution.now.processors }
     {
         (0..self.execution.instructions.count).any(|i| self.pairs_broken_with(

@@ -1,11 +1,10 @@
 // A prefix of an execution's operations, as the rules are asked of it.
-ghost use Rattle.std.specs.Prelude.{◌≤◌};
-
 use record_decoded::position::Position;
 use record_decoded::types::{Execution, MOST_INSTRUCTIONS};
 use relation_links::operations::Operations;
 
-// The record and the execution that it holds, with its operations and the marks of every two instructions; the places of the prefix.
+// The record and the execution that it holds, with its operations and the marks of every two instructions; the places of the prefix. Bounds stand in the methods'
+// contracts and in no ghost field: `links_broken` and `pairs_broken` each ask for fewer than the other, and may not ask more than they did.
 #[derive(Clone, Copy)]
 pub struct Prefix<'a> {
     pub bytes: &'a [u8],
@@ -13,5 +12,4 @@ pub struct Prefix<'a> {
     pub operations: &'a Operations,
     pub marks: &'a [[u16; MOST_INSTRUCTIONS]; MOST_INSTRUCTIONS],
     pub places: &'a [u8; Position::LIMIT],
-    ghost small: { (execution.now.instructions.count ≤ 40) × (execution.now.lines.count ≤ 8) × (execution.now.processors ≤ 255) × (operations.now.count ≤ 128) },
 }

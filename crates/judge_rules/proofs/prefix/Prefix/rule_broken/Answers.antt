@@ -8,7 +8,9 @@ use Rattle.judge_rules.proofs.RuleMeaning.{means11, means_pairs, means_links}
 use Rattle.judge_rules.proofs.prefix.Prefix.rule_broken.Goals as goal
 
 pub links_broken-requires : goal.links_broken-requires
-links_broken-requires c = λ o l. omega (arith, owner_there (c.requires.compiled []) o l)
+links_broken-requires c =
+    let pre = c.requires in
+    (pre.bounds.5, λ o l. omega (arith, pre.bounds.2, owner_there (pre.compiled []) o l))
 
 pub returns-in-11 : goal.returns-in-11
 returns-in-11 c = λ n xs p. c.sights_broken.ensures n xs p ∙ means11 (c.requires.compiled c.args.self.now.bytes.now) p c.args.rule (omega arith)
