@@ -140,10 +140,6 @@ module _ {start : ℕ → Bool} {adds : ℕ → ℕ → Bool} {now : ℕ → Boo
         ∙ sym (ap (λ (n : ℕ). start k || any_below n (λ v. adds v k)) (add-one i));
   }
 
-  -- numbers that add nothing
-  grown_skips : (j : ℕ) → i ≤ j → ((v k : ℕ) → i ≤ v → v < j → adds v k ≡ false) → Grown start adds now j
-  grown_skips j l none = record { has = λ k s. g.has k s ∙ ap (λ (b : Bool). start k || b) (sym (any_skips (λ v. adds v k) i j l (λ v f h. none v k f h))) }
-
 -- all that the numbers below n add to the empty set
 pub grown_all : {adds : ℕ → ℕ → Bool} {now : ℕ → Bool} {n i : ℕ} → Grown (holds 0 0) adds now i → i ≤ n → n ≤ i → (k : ℕ) → k < 128 → now k ≡ any_below n (λ v. adds v k)
 grown_all {adds} {n = n} {i} g few all k l =
@@ -165,10 +161,6 @@ any_itself test k i l =
 module _ {start test now : ℕ → Bool} {i : ℕ} (g : Taken start test now i) where
   pub taken_on : (now' : ℕ → Bool) {r : Bool} → r ≡ test i → ((k : ℕ) → k < 128 → now' k ≡ (now k || (r && eqb k i))) → Taken start test now' (i + 1)
   taken_on now' h f = record { grown = grown_more g.grown now' (λ k l. f k l ∙ ap (λ (b : Bool). now k || (b && eqb k i)) h) }
-
-  -- numbers that do not pass
-  pub taken_past : (j : ℕ) → i ≤ j → ((v : ℕ) → i ≤ v → v < j → test v ≡ false) → Taken start test now j
-  taken_past j l none = record { grown = grown_skips g.grown j l (λ v k f h. ap (λ (b : Bool). b && eqb k v) (none v f h)) }
 
   -- all are passed
   pub taken_ends : (k : ℕ) → k < 128 → k < i → now k ≡ (start k || test k)
