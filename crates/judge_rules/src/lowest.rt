@@ -13,7 +13,7 @@ use record_decoded::position::Position;
 use record_decoded::types::{Execution, MOST_INSTRUCTIONS};
 use relation_links::operations::Operations;
 
-// How many visibility rules there are.
+// How many visibility rules there are. Rules go by the note's numbers, which the judge answers with.
 const RULES: u8 = 16;
 
 impl Prefix<'_> {

@@ -21,6 +21,7 @@ fn read_input(rt: &HostRuntime, input: &mut [u8]) -> usize
 {
     let mut source = rt.stdin();
     let mut done = 0;
+    // Not `read_to_end`, which wants a Vec: there is no heap.
     while done < input.len() {
         let got = source.read(&mut input[done..]).unwrap_or(0);
         if got == 0 {

@@ -1,4 +1,4 @@
-// A position: a prefix of different operations, in an array with room for all.
+// A position: a prefix of different operations, in an array with room for all, since there is no heap.
 ghost use Rattle.std.specs.Prelude.{◌≡◌, [], ◌≤◌, take, replicate};
 ghost use Rattle.std.proofs.Math.ListN as ListN;
 ghost use Rattle.std.proofs.Math.Seq.{paste};

@@ -78,7 +78,7 @@ fn lowered(b: u8, n: usize) -> u8
 // Above the number of every instruction.
 const PAIRS_END: u8 = 255;
 
-// The pairs of one processor as bytes, PAIRS_END behind them; with it they are so many bytes.
+// The pairs of one processor as bytes, PAIRS_END behind them; with it they are so many bytes, of an array with room for all, since there is no heap.
 #[derive(Clone, Copy)]
 pub struct OwnPairs {
     pub bytes: [u8; PAIR_LENGTH * MOST_PAIRS as usize + 1],

@@ -8,8 +8,9 @@ use record_decoded::kind::{Kind, table_column, table_row};
 use record_decoded::types::wide;
 use std::ops::Range;
 
-// The marks: one instruction; rules 2, 3 and 4 by the kinds; a shared byte; a dependence pair; UC memory of one domain; conflicting stores; a UC store and an
-// overlapping load of its processor; one release to WB; a semaphore and another overlapping store; the first is a semaphore; the second is one.
+// The marks, as bits: a cell of the table of the program-order rules adds two of them, and a link asks for any of several by one `&`. They are: one instruction;
+// rules 2, 3 and 4 by the kinds; a shared byte; a dependence pair; UC memory of one domain; conflicting stores; a UC store and an overlapping load of its
+// processor; one release to WB; a semaphore and another overlapping store; the first is a semaphore; the second is one.
 pub const SAME: u16 = 1;
 
 pub const ACQUIRE: u16 = 2;

@@ -7,7 +7,7 @@ ghost use Rattle.relation_places.specs.Places.{placed, Placement, before_by};
 use record_decoded::position::Position;
 use record_decoded::types::{OperationNo, wide};
 
-// The place of an operation that does not stand.
+// The place of an operation that does not stand: past every other, so that `before` is one comparison, which with an Option would be three cases.
 pub const ABSENT: u8 = 255;
 
 // The place of an operation.

@@ -289,7 +289,8 @@ pub fn is_enabled(rows: &[u64; TABLE], words: &[u64; WORDS], stand: Set, x: Oper
     reads_right(rows, words, stand, x)
 }
 
-// Whether operation x is enabled before any operation stands: nothing must stand before it, and it reads what is recorded.
+// Whether operation x is enabled before any operation stands: nothing must stand before it, and it reads what is recorded. Not as `is_enabled` at the empty set:
+// that proves too, but a step of the longest table then took 4 % longer.
 pub fn is_enabled_first(rows: &[u64; TABLE], words: &[u64; WORDS], x: OperationNo) -> bool
     requires { x.0 < 128 }
     ensures { result ≡ enabled rows.now 0 0 words.now x.0 }

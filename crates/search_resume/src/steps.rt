@@ -61,6 +61,7 @@ fn make_steps(
     let mut reached = given.entries;
     let mut length = given.length;
     let mut steps: u32 = 0;
+    // It ends in its middle, behind a walk, so no condition stands here.
     loop {
         // The walk behind the last step only sees whether anything is left.
         let last = steps == allowance;

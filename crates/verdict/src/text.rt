@@ -25,7 +25,7 @@ pub fn write_word(out: &mut [u8], at: usize, word: &[u8]) -> usize
     next
 }
 
-// The digits of a number, from the first one on.
+// The digits of a number, from the first one on, in an array with room for the longest: there is no heap for a String.
 #[derive(Clone, Copy)]
 struct Digits {
     bytes: [u8; 20],
@@ -39,6 +39,7 @@ fn digits_of(n: u64) -> Digits
     let mut bytes = [0u8; 20];
     let mut first: usize = 19;
     let mut rest = n;
+    // How many digits there are shows only when they are written, so this is no `for`.
     while 9 < rest {
         bytes[first] = 48 + (rest % 10) as u8;
         rest = rest / 10;
