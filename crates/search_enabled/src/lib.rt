@@ -72,12 +72,7 @@ fn any_reads(n: usize, rows: &[u64; TABLE]) -> bool
     requires { n ≤ 128 }
     ensures { result ≡ any_below n (λ (y : ℕ). reads rows.now y) }
 {
-    for y in 0..n {
-        if words_read(rows, OperationNo(y)) != 0 {
-            return true;
-        }
-    }
-    false
+    (0..n).any(|y| words_read(rows, OperationNo(y)) != 0)
 }
 
 // These sets, if one of n operations reads: for no other are they asked for.
