@@ -6,8 +6,8 @@ use Rattle.record_decoded.specs.Kinds.{role_numbered}
 use Rattle.relation_links.proofs.LinkedLaws.{linked_is, no_mark, others_from_remote}
 use Rattle.relation_links.proofs.link.is_linked.Goals as goal
 
-pub returns-then-one_links : goal.returns-then-one_links
-returns-then-one_links c =
+pub returns-then-links_from_any : goal.returns-then-links_from_any
+returns-then-links_from_any c =
     let law = linked_is c.args.marks c.args.processor (role_numbered c.args.a) (role_numbered c.args.b) in
     search rules
 
