@@ -99,7 +99,7 @@ impl Prefix<'_> {
         ))
     }
 
-    // Whether it stands before one of them.
+    // Whether it stands before one of them. As one function with the one above it would take a flag, which would be no plainer.
     fn is_before_remote(&self, v: InstructionNo, operation: OperationNo) -> bool
         requires { (v.0 < 40) × (self.now.execution.now.processors ≤ 255) }
         ensures { result ≡ any_below self.now.execution.now.processors (λ q. before_by self.now.places.now operation.0 (number_of (instruction_at self.now.execution.now.instructions v.0) (RV q))) }

@@ -68,7 +68,7 @@ fn seen_byte(is: &Instructions, i: InstructionNo, k: usize) -> u8
     }
 }
 
-// Byte k of what instruction i wrote.
+// Byte k of what instruction i wrote. Beside `seen_byte`, with which it shares `data_byte`: each is held to a definition of its own, and as one function both would stand in its clause.
 #[tactic(auto, unfolding(crate::specs::Sights::wrote_byte, crate::specs::Sights::data_byte, model::specs::Questions::wrote_of, record_decoded::specs::Decoded::instruction_at))]
 fn wrote_byte(is: &Instructions, i: InstructionNo, k: usize) -> u8
     requires { i.0 < 40 }

@@ -57,6 +57,7 @@ fn place_for(bytes: &[u8], x: Execution, starts: Starts, order: Order, n: usize)
     requires { (read_all bytes.now ≡ says (execution_of bytes.now x)) × StartsMean x.processors x.lines.count (instructions_of x.instructions) starts × (n < x.processors) × ((j : ℕ) → j < n → get_or order.processors j 0 < x.processors) }
     ensures { (result ≡ place_for (key_less (instructions_of x.instructions) (pairs_of x.pairs)) n (take n order.processors)) × (result ≤ n) }
 {
+    // Not `find`: its closure calls what asks for a processor of the record, and the check wants that shown of each turn.
     for j in 0..n {
         if key_less(bytes, x, starts, n, wide(order.processors[j])) {
             return j;

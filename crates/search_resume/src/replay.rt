@@ -41,6 +41,7 @@ pub fn replay(
     requires lengths { (length entries.now ≡ 128) × (length places.old ≡ 128) × (length words.old ≡ 128) }
     ensures { Replayed n rows.now size entries.now result places.new levels.new words.new replaced.new }
 {
+    // Not `all`: a turn also enters what it asks.
     for j in 0..size {
         let x = wide(entries[j]);
         if !levels[j].candidates.has(x) {
