@@ -112,8 +112,7 @@ module _ (part : List ℕ) (x r : Lines) (n i a : ℕ) {rest after : List ℕ} {
   line_turn few read first left more holds =
       let rest_is : rest ≡ drop (1 + 9 * x.count) part = here ∙ ap (λ (k : ℕ). drop (1 + 9 * k) part) (sym counted) in
       let byte : get_or part (1 + 9 * x.count) 0 ≡ a =
-          ap (λ (k : ℕ). get_or part k 0) (sym (add-zero (1 + 9 * x.count))) ∙ sym (first ∙ ap (λ (l : List ℕ). get_or l 0 0) rest_is ∙ get_or-drop (1 + 9 * x.count) part 0 0) in
-      (
+      ap (λ (k : ℕ). get_or part k 0) (sym (add-zero (1 + 9 * x.count))) ∙ sym (first ∙ ap (λ (l : List ℕ). get_or l 0 0) rest_is ∙ get_or-drop (1 + 9 * x.count) part 0 0) in (
         going_on going few read (holds byte ∙ ap (λ (l : List ℕ). lines_of part x ++ (line_of (take 9 l) ∷ [])) (sym rest_is)),
         omega (arith, more, counted),
         left ∙ ap (drop 9) here ∙ drop-drop 9 (1 + 9 * i) part ∙ ap (λ (k : ℕ). drop k part) (let z : 1 + 9 * i + 9 ≡ 1 + 9 * (i + 1) = omega arith in z),

@@ -20,7 +20,7 @@ returns-then-n-lt1-clause-walked c =
     let part = c.args.part.now in
     lines_refused part (search rules)
     (elim c.then-n-lt1.branch [
-      then-n-lt1-via-then-n-lt1 w ↦ too_few (get_or part 0 0) (search rules)
+      | then-n-lt1-via-then-n-lt1 w ↦ too_few (get_or part 0 0) (search rules)
       | then-n-lt1-via-else-n-lt1+then-n-gt-MOST_LINES w ↦ too_many (get_or part 0 0) (search rules)
     ])
 

@@ -10,7 +10,7 @@ pub returns-then-n-m : goal.returns-then-n-m
 returns-then-n-m c =
     let a = c.args in
     elim c.then-n-m.branch [
-      then-n-m-via-then-n-m w ↦ pair_turned a.is a.earlier.0 a.later.0 w.if-n-m.true
+      | then-n-m-via-then-n-m w ↦ pair_turned a.is a.earlier.0 a.later.0 w.if-n-m.true
       | then-n-m-via-else-n-m+then-is-n w ↦ pair_past a.is a.earlier.0 a.later.0 w.if-n-m.false w.if-is-n.true
     ]
 

@@ -19,7 +19,7 @@ returns-in_default c = record_short c.args.bytes.now (search rules)
 pub returns-then-processors-lt1 : goal.returns-then-processors-lt1
 returns-then-processors-lt1 c =
     elim c.then-processors-lt1.branch [
-      then-processors-lt1-via-then-processors-lt1 w ↦ record_few c.args.bytes.now (search rules) (search rules)
+      | then-processors-lt1-via-then-processors-lt1 w ↦ record_few c.args.bytes.now (search rules) (search rules)
       | then-processors-lt1-via-else-processors-lt1+then-processors-gt-MOST_PROCESSORS w ↦ record_many c.args.bytes.now (search rules) (search rules)
     ]
 
