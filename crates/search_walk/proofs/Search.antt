@@ -254,7 +254,7 @@ module _ {n : ℕ} {rows xs : List ℕ} {size : ℕ} {position places : List ℕ
       stands_placed = placed_more position k c inside n places at.long at.places_hold l new
 
 -- the same point, by other names
-pub search_same : {n : ℕ} {rows xs : List ℕ} {size : ℕ} {position position' places places' : List ℕ} {levels levels' : List Level} {words words' replaced replaced' : List ℕ} {s s' : Set} {k k' c c' left : ℕ}
+pub search_same : {n : ℕ} {rows xs : List ℕ} {size : ℕ} {position position' places places' : List ℕ} {levels levels' : List Level} {words words' replaced replaced' : List ℕ} {s s' : Set} {k k' c c' left left' : ℕ}
     → Search n rows xs size position places levels words replaced s k c left → position' ≡ position → places' ≡ places → levels' ≡ levels → words' ≡ words → replaced' ≡ replaced
-    → k' ≡ k → c' ≡ c → s' ≡ s → Search n rows xs size position' places' levels' words' replaced' s' k' c' left
-search_same at o p l w r k c s = rw (o, p, l, w, r, k, c, s) at
+    → k' ≡ k → c' ≡ c → s' ≡ s → left' ≡ left → Search n rows xs size position' places' levels' words' replaced' s' k' c' left'
+search_same at o p l w r k c s t = rw (o, p, l, w, r, k, c, s, t) at
