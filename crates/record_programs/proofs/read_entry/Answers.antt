@@ -1,4 +1,6 @@
 -- Each way out is one answer of the instruction's questions.
+use native.Mathlib.Omega.{arith}
+use mathlib.Core.Path.{sym, ◌∙◌}
 use Rattle.std.proofs.Common.{rules}
 use Rattle.record_decoded.specs.Kinds.{meant}
 use Rattle.record_decoded.specs.Decoded.{attributes_of}
@@ -6,6 +8,9 @@ use Rattle.base.proofs.Copies.{rest}
 use Rattle.record_decoded.proofs.Arrays.{attributes_length}
 use Rattle.record_programs.proofs.EntryLaws.{entry_short, entry_kind, entry_size, entry_cut, entry_address, entry_line, entry_lines, entry_data, entry_passes, entry_is}
 use Rattle.record_programs.proofs.read_entry.Goals as goal
+
+pub split_at-requires : goal.split_at-requires
+split_at-requires c = omega arith
 
 pub returns-then-part-lt-ENTRY_LENGTH-clause-walked : goal.returns-then-part-lt-ENTRY_LENGTH-clause-walked
 returns-then-part-lt-ENTRY_LENGTH-clause-walked c = λ processors p done.
@@ -33,7 +38,7 @@ returns-then-not-line_passes-clause-walked c = λ processors p done.
 
 pub returns-then-not-one_attribute-clause-walked : goal.returns-then-not-one_attribute-clause-walked
 returns-then-not-one_attribute-clause-walked c = λ processors p done.
-    entry_lines c.args.part.now (attributes_of c.args.lines) c.args.lines.count (attributes_length c.args.lines) processors p done (search rules) (search rules) (meant c.kind_of-kind.result) c.kind_of-kind.ensures (search rules) (search rules) (search rules) (search rules) (search rules)
+    entry_lines c.args.part.now (attributes_of c.args.lines) c.args.lines.count (attributes_length c.args.lines) processors p done (search rules) (search rules) (meant c.kind_of-kind.result) c.kind_of-kind.ensures (search rules) (search rules) (search rules) (search rules) (sym c.one_attribute.ensures ∙ c.if-not-one_attribute.true)
 
 pub returns-then-not-data_passes-clause-walked : goal.returns-then-not-data_passes-clause-walked
 returns-then-not-data_passes-clause-walked c = λ processors p done.

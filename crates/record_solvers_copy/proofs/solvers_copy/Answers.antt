@@ -1,9 +1,12 @@
 -- The record is read: its refusal, question 25, or the record copied and cleared of all that was seen.
-use Prim.Native.Nat.{◌≤◌}
-use mathlib.Core.Path.{◌≡◌}
+use Prim.Native.Nat.{ℕ}
+use mathlib.Core.Path.{◌≡◌, ap, ◌∙◌}
+use mathlib.Core.List.{List, ◌++◌}
+use lib.ListN.{length, drop}
 use Rattle.std.proofs.Common.{rules}
-use Rattle.model.specs.Calls.{refuses, says, read_all, record_reply}
-use Rattle.record_decoded.specs.Decoded.{execution_of}
+use Rattle.model.specs.Calls.{refuses, says, done, read_all, record_reply}
+use Rattle.model.specs.SolversCopy.{seen_places, zeroed}
+use Rattle.record_decoded.specs.Decoded.{instructions_of, execution_of}
 use Rattle.record_decoded.specs.Refusals.{question_number}
 use Rattle.record_solvers_copy.proofs.CopyLaws.{copy_refused, copy_lines, copy_instructions, copy_short, copy_within, copy_done}
 use Rattle.record_solvers_copy.proofs.solvers_copy.Goals as goal
@@ -34,5 +37,6 @@ pub returns : goal.returns
 returns c =
     let x = c.in_ok-execution.execution in
     let told : read_all c.args.bytes.now ≡ says (execution_of c.args.bytes.now x) = search rules in
-    let done = copy_done c.args.bytes.now c.args.buffer.now x told (search rules) in
-    search rules
+    let places = seen_places x.lines.count (instructions_of x.instructions) in
+    ap (λ (l : List ℕ). record { answer = says done; length = length c.args.bytes.now; buffer = l ++ drop (length c.args.bytes.now) c.args.buffer.now })
+    (c.clear_seen.ensures ∙ ap (zeroed places) c.copy_from_slice.ensures.after) ∙ copy_done c.args.bytes.now c.args.buffer.now x told c.if-buffer-bytes.false

@@ -1,9 +1,10 @@
 -- The record is composed and read: its refusal, question 25, or the record copied out.
-use Prim.Native.Nat.{◌≤◌}
-use mathlib.Core.Path.{◌≡◌}
-use lib.ListN.{length, take}
+use Prim.Native.Nat.{ℕ, ◌≤◌}
+use mathlib.Core.Path.{◌≡◌, ap, ◌∙◌}
+use mathlib.Core.List.{List, ◌++◌}
+use lib.ListN.{length, take, drop}
 use Rattle.std.proofs.Common.{rules}
-use Rattle.model.specs.Calls.{refuses, says, read_all, record_reply}
+use Rattle.model.specs.Calls.{refuses, says, done, read_all, record_reply}
 use Rattle.record_decoded.specs.Decoded.{execution_of}
 use Rattle.record_decoded.specs.Refusals.{question_number}
 use Rattle.model.specs.Sections.{sections_from}
@@ -37,5 +38,5 @@ returns c =
     let room : k.result ≤ length k.new.out = search rules in
     let x = execution_of (take k.result k.new.out) c.in_ok-read.field-0 in
     let read : read_all (take k.result k.new.out) ≡ says x = search rules in
-    let done = reply_done (sections_from a.processors a.lines.now a.instructions.now a.pairs.now) a.buffer.now c.requires k.new.out k.result room k.ensures.0 x read (search rules) in
-    search rules
+    ap (λ (l : List ℕ). record { answer = says done; length = k.result; buffer = l ++ drop k.result a.buffer.now }) c.copy_from_slice.ensures.after
+    ∙ reply_done (sections_from a.processors a.lines.now a.instructions.now a.pairs.now) a.buffer.now c.requires k.new.out k.result room k.ensures.0 x read c.if-buffer-length.false
