@@ -27,6 +27,7 @@ use Rattle.search_walk.proofs.Gaps.{closed_front}
 use Rattle.search_walk.proofs.Levels.{placed_more, remembered_more, levels_more}
 use Rattle.search_walk.proofs.Search.{open_tells}
 use Rattle.search_resume.specs.Replays.{Replayed}
+use Rattle.search_resume.specs.Outcomes.{Told}
 
 -- all entries copied
 pub pasted_whole : (d s : List ℕ) → length s ≡ 128 → length d ≡ 128 → paste d 0 (drop 0 s) 128 ≡ s
@@ -152,3 +153,8 @@ module _ {n : ℕ} {rows : List ℕ} {size : ℕ} {given places : List ℕ} {lev
               ap c (ap (λ (k : ℕ). take k given) (add-one j) ∙ one_longer) ∙ tells c tested closed empty
               ∙ ap₂ (λ (a b : Bool). a && b) (sym opened ∙ h1) (sym entered.told ∙ h2);
         }
+
+-- the answer says whether the entries pass
+pub replay_told : {n size : ℕ} {rows entries : List ℕ} {r b : Bool} {places : List ℕ} {levels : List Level} {words replaced : List ℕ}
+    → Replayed n rows size entries r places levels words replaced → r ≡ b → Told n rows (take size entries) b
+replay_told made e = λ c tested closed empty. sym (made.means c tested closed empty) ∙ e

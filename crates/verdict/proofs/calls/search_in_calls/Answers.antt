@@ -1,4 +1,5 @@
 -- Each turn is one call of the definition.
+use Prim.Native.Nat.{ℕ, ◌+◌}
 use native.Mathlib.Omega.{arith}
 use mathlib.Core.Path.{◌≡◌, refl, ap, ◌∙◌}
 use Rattle.std.proofs.Common.{rules}
@@ -30,7 +31,7 @@ returns-then-ne-clause-came c =
     let same : total (says (verdict_meant reply.verdict)) reply.steps reply.length c.search.new.buffer ≡ search_call c.args.bytes.now c.loop.buffer c.loop.length call_allowance = search rules in
     let other : reply.verdict ≡ Unfinished → ⊥ = search rules in
     let stops = calls_stop inv (says (verdict_meant reply.verdict)) reply.steps reply.length same c.search.auto.buffer c.loop-test.true (other_verdict reply.verdict other) in
-    search rules
+    ap (λ (k : ℕ). total (says (verdict_meant reply.verdict)) (c.loop.steps + k) reply.length c.search.new.buffer) c.from-steps.ensures ∙ stops
 
 pub returns-then-ne-clause-within : goal.returns-then-ne-clause-within
 returns-then-ne-clause-within c =
