@@ -91,5 +91,8 @@ pub fn copy_bytes(to: &mut [u8], at: usize, from: &[u8], start: usize, n: usize)
     requires { (at + n ≤ length to.old) × (start + n ≤ length from.now) }
     ensures { to.new ≡ paste to.old at (drop start from.now) n }
 {
-    to[at..at + n].copy_from_slice(&from[start..start + n]);
+    // Not `copy_from_slice`: of two slices that are both lent it calls `memmove`, which the library for C asks of nobody.
+    for (j, &byte) in from[start..start + n].iter().enumerate() {
+        to[at + j] = byte;
+    }
 }

@@ -1,15 +1,16 @@
 -- The call's questions in turn, and what it then answers and writes.
-use Prim.Native.Nat.{ℕ, ◌+◌, ◌≤◌, ◌<◌}
+use Prim.Native.Nat.{ℕ, ◌≤◌, ◌<◌}
 use native.Mathlib.Omega.{arith}
-use mathlib.Core.Path.{◌≡◌, sym, ap, ap₂, ◌∙◌}
+use mathlib.Core.Path.{◌≡◌, refl, sym, ap, ◌∙◌}
 use mathlib.Core.Bool.{true}
 use mathlib.Core.List.{List, ◌++◌}
-use lib.ListN.{length, drop, length-append}
-use lib.Seq.{paste, take-length}
+use lib.ListN.{length, take, drop, drop_of_length-le}
+use lib.Seq.{paste, length-take-le}
+use Rattle.std.proofs.lemmas.List.{append-nil}
+use Rattle.std.proofs.lemmas.List.Edits.{paste_all}
 use lib.Dec.{ltb}
-use borrow.Author.Tests.{le-leb, lt-leb, lt-ltb, ltb-true}
+use borrow.Author.Tests.{le-leb, lt-leb}
 use Rattle.base.specs.Lists.{all}
-use Rattle.base.proofs.Lists.{all_member, all_members}
 use Rattle.model.specs.Calls.{says, refuses, and_then, asks, question25, read_all, done, record_reply}
 use Rattle.model.proofs.Asking.{after_says, after_refuses, asked_yes, asked_no}
 use Rattle.model.proofs.Accepted.{read_accepted}
@@ -17,10 +18,17 @@ use Rattle.record_decoded.specs.declared.types.Execution.{Execution}
 use Rattle.record_decoded.specs.Decoded.{instructions_of, execution_of}
 use Rattle.record_decoded.proofs.Arrays.{lines_length, instructions_length}
 use Rattle.model.specs.SolversCopy.{seen_places, zeroed, copying, solvers_copy_call}
-use Rattle.record_seen.proofs.Zeroed.{zeroed_length, zeroed_front}
+use Rattle.record_seen.proofs.Zeroed.{zeroed_length}
 use Rattle.record_seen.proofs.Within.{seen_within}
 
 module _ (bytes buffer : List ℕ) where
+  -- the record, pasted over the front of the buffer
+  pub copied_whole : {out : List ℕ} → length bytes ≤ length buffer → out ≡ paste (take (length bytes) buffer) 0 bytes (length bytes) → out ≡ bytes
+  copied_whole enough made =
+      made ∙ paste_all (take (length bytes) buffer) 0 bytes (length bytes) refl
+      ∙ ap (λ (l : List ℕ). bytes ++ l) (drop_of_length-le (take (length bytes) buffer) (omega (arith, length-take-le (length bytes) buffer enough)))
+      ∙ append-nil bytes
+
   pub copy_refused : (q : ℕ) → read_all bytes ≡ refuses q → record_reply buffer (refuses q) ≡ solvers_copy_call bytes buffer
   unfolding solvers_copy_call copying
   copy_refused q h = ap (record_reply buffer) (after_refuses _ h)

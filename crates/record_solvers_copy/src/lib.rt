@@ -10,7 +10,9 @@ ghost use Rattle.record_writer.specs.Replies.{reply_of};
 
 use record_decoded::kind::{Kind, is_load, is_semaphore, kind_of};
 use record_decoded::question::Question;
-use record_decoded::types::{ENTRY_LENGTH, Instructions, LINE_LENGTH, VALUE_LENGTH, wide};
+use record_decoded::types::{
+    ENTRY_LENGTH, Instructions, LINE_LENGTH, VALUE_LENGTH, copy_bytes, wide,
+};
 use record_programs::more_length;
 use record_reader::reader::read;
 
@@ -65,7 +67,7 @@ pub fn solvers_copy(bytes: &[u8], buffer: &mut [u8]) -> Result<usize, Question>
         return Err(Question::RecordRoom);
     }
     let copy = &mut buffer[..bytes.len()];
-    copy.copy_from_slice(bytes);
+    copy_bytes(copy, 0, bytes, 0, bytes.len());
     clear_seen(copy, execution.lines.count, execution.instructions);
     Ok(bytes.len())
 }

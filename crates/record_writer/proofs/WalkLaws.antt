@@ -1,22 +1,22 @@
 -- Walks over the section of instructions: how long an entry is, and what is left of the walk decides the whole.
 use Prim.Native.Nat.{ℕ, zero, suc, ◌+◌, ◌-◌, ◌≤◌, ◌<◌, min}
 use native.Mathlib.Omega.{arith}
-use mathlib.Core.Path.{◌≡◌, refl, sym, ap, ap₂, ◌∙◌, subst}
-use mathlib.Core.Bool.{Bool, true, false, not, cond, ◌&&◌, and-false}
+use mathlib.Core.Path.{◌≡◌, refl, sym, ap, ap₂, ◌∙◌}
+use mathlib.Core.Bool.{Bool, true, false, ◌&&◌, and-false}
 use mathlib.Core.List.{List, [], ◌∷◌}
 use lib.ListN.{length, get_or, take, drop, drop_of_length-le}
 use lib.Seq.{take_all}
 use lib.Dec.{eqb, leb, ltb}
 use borrow.Author.Tests.{le-leb, lt-leb, leb-true, leb-false}
 use Rattle.base.specs.Lists.{all, keep}
-use borrow.Author.Tests.{eq-eqb, ne_eqb}
+use borrow.Author.Tests.{eq-eqb, ne_eqb, eqb-true, eqb-false}
 use Rattle.base.proofs.Bools.{split}
 use Rattle.base.proofs.Chains.{all_list}
 use Rattle.std.specs.List.{list_all}
 use Rattle.model.specs.Execution.{kind_of, is_fence}
 use Rattle.model.specs.Questions.{more_length, question6}
 use Rattle.model.specs.Sections.{section_entry_length, entries_up_to, entries_of, is_whole, all_whole, question24, program_of}
-use Rattle.record_sections.proofs.Entries.{length_range, entries_next, entries_at, entries_end, whole_next, Walking, walking_starts, walking_turns}
+use Rattle.record_sections.proofs.Entries.{length_range, entries_next, whole_next}
 
 -- How long the entry at the front is, by its kind and size
 module _ (part : List ℕ) where
@@ -72,14 +72,30 @@ few_entries part = up_to (length part) part
     up_to (suc most) [] = omega arith
     up_to (suc most) (b ∷ bytes) = omega (arith, up_to most (drop (section_entry_length (b ∷ bytes)) (b ∷ bytes)))
 
--- The tests of all entries, as the definitions have them
-pub whole_law : (part : List ℕ) → list_all (λ (e : List ℕ). eqb (length e) (section_entry_length e)) (entries_of part) ≡ all_whole part
-unfolding all_whole is_whole
-whole_law part = each (entries_of part)
-  where
-    each : (l : List (List ℕ)) → list_all (λ (e : List ℕ). eqb (length e) (section_entry_length e)) l ≡ all is_whole l
-    each l = all_list is_whole l
+-- What stands behind a whole entry decides whether all are; one whose bytes are not all there is not whole.
+module _ (part : List ℕ) where
+  next_whole : 0 < length part
+      → all_whole part ≡ (leb (section_entry_length part) (length part) && all_whole (drop (section_entry_length part) part))
+  unfolding all_whole
+  next_whole some =
+      whole_next part 0 some
+      ∙ ap₂ (λ (m n : ℕ). leb (section_entry_length part) m && all is_whole (entries_of (drop n part)))
+      (let z : length part - 0 ≡ length part = omega arith in z) (let z : 0 + section_entry_length part ≡ section_entry_length part = omega arith in z)
 
+  pub whole_behind : section_entry_length part ≤ length part → all_whole (drop (section_entry_length part) part) ≡ all_whole part
+  whole_behind h =
+      sym (next_whole (omega (arith, h, (length_range part).0))
+      ∙ ap (λ (b : Bool). b && all_whole (drop (section_entry_length part) part)) (le-leb (section_entry_length part) (length part) h))
+
+  pub whole_ends : length part < section_entry_length part → eqb (length part) 0 ≡ all_whole part
+  unfolding all_whole all
+  whole_ends h =
+      split (eqb (length part) 0)
+      (λ e. e ∙ sym (ap (all is_whole) (none_left part (eqb-true (length part) 0 e))))
+      (λ e. e ∙ sym (next_whole (omega (arith, eqb-false (length part) 0 e))
+      ∙ ap (λ (b : Bool). b && all_whole (drop (section_entry_length part) part)) (lt-leb (section_entry_length part) (length part) h)))
+
+-- Question 24 of all entries, as the definition has it
 pub below_law : (processors : ℕ) (part : List ℕ) → list_all (λ (e : List ℕ). ltb (get_or e 0 0) processors) (entries_of part) ≡ question24 processors part
 unfolding question24
 below_law processors part = all_list (λ (e : List ℕ). ltb (get_or e 0 0) processors) (entries_of part)

@@ -19,7 +19,10 @@ fn joined_row(
     let mut row = [0u8; Position::LIMIT];
     for j in 0..n {
         let to = OperationNo(j);
-        row[j] = u8::from(is_marked(m, from, to) || is_marked(m, way, to));
+        // Both marks are read before they are joined: a turn that reads the second only where the first is none takes twice as long.
+        let own = is_marked(m, from, to);
+        let other = is_marked(m, way, to);
+        row[j] = u8::from(own || other);
     }
     row
 }

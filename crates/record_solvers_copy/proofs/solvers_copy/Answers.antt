@@ -8,7 +8,7 @@ use Rattle.model.specs.Calls.{refuses, says, done, read_all, record_reply}
 use Rattle.model.specs.SolversCopy.{seen_places, zeroed}
 use Rattle.record_decoded.specs.Decoded.{instructions_of, execution_of}
 use Rattle.record_decoded.specs.Refusals.{question_number}
-use Rattle.record_solvers_copy.proofs.CopyLaws.{copy_refused, copy_lines, copy_instructions, copy_short, copy_within, copy_done}
+use Rattle.record_solvers_copy.proofs.CopyLaws.{copied_whole, copy_refused, copy_lines, copy_instructions, copy_short, copy_within, copy_done}
 use Rattle.record_solvers_copy.proofs.solvers_copy.Goals as goal
 
 pub returns-in_err-execution : goal.returns-in_err-execution
@@ -39,4 +39,4 @@ returns c =
     let told : read_all c.args.bytes.now ≡ says (execution_of c.args.bytes.now x) = search rules in
     let places = seen_places x.lines.count (instructions_of x.instructions) in
     ap (λ (l : List ℕ). record { answer = says done; length = length c.args.bytes.now; buffer = l ++ drop (length c.args.bytes.now) c.args.buffer.now })
-    (c.clear_seen.ensures ∙ ap (zeroed places) c.copy_from_slice.ensures.after) ∙ copy_done c.args.bytes.now c.args.buffer.now x told c.if-buffer-bytes.false
+    (c.clear_seen.ensures ∙ ap (zeroed places) (copied_whole c.args.bytes.now c.args.buffer.now c.if-buffer-bytes.false c.copy_bytes.ensures)) ∙ copy_done c.args.bytes.now c.args.buffer.now x told c.if-buffer-bytes.false

@@ -1,19 +1,23 @@
--- Every entry is asked.
+-- Each turn takes one entry; where the bytes of the last one are not all there, something is left.
 use Prim.Native.Nat.{ℕ}
-use mathlib.Core.Path.{refl, ◌∙◌}
-use mathlib.Core.List.{List}
-use lib.ListN.{length}
-use lib.Dec.{eqb}
-use borrow.Author.Tests.{tests}
-use Rattle.std.proofs.Common.{rules}
-use Rattle.std.proofs.lemmas.Iterator.Consumers.{YieldsList-from_first}
-use Rattle.std.proofs.lemmas.Iterator.Search.{all_from_yields_List}
-use Rattle.model.specs.Sections.{section_entry_length, entries_of}
-use Rattle.record_writer.proofs.WalkLaws.{whole_law}
+use native.Mathlib.Omega.{arith}
+use mathlib.Core.Path.{◌≡◌, ap, ◌∙◌}
+use lib.ListN.{drop}
+use Rattle.base.proofs.Copies.{rest}
+use Rattle.model.specs.Sections.{section_entry_length, all_whole}
+use Rattle.record_writer.proofs.WalkLaws.{whole_behind, whole_ends}
 use Rattle.record_writer.proofs.entries.all_whole.Goals as goal
+
+pub loop-rest-preserved : goal.loop-rest-preserved
+loop-rest-preserved c =
+    let left = c.loop-rest.left.now in
+    let found = c.in-Some.ensures.lookup.0 in
+    let behind : c.in-Some.rest.now ≡ drop (section_entry_length left) left =
+    found.2 ∙ rest c.entry_length.result left ∙ ap (λ (n : ℕ). drop n left) c.entry_length.ensures.0
+    in
+    ap all_whole behind ∙ whole_behind left (omega (arith, found.0, c.entry_length.ensures.0)) ∙ c.loop-rest.invariant
 
 pub returns : goal.returns
 returns c =
-    all_from_yields_List (λ (e : List ℕ). eqb (length e) (section_entry_length e)) c.all.new.self _ c.all.result c.all.ensures.ran
-    (YieldsList-from_first (λ x. x.now) (λ s. entries_of s.rest.now) {s = c.entries_of.result} _ c.entries_of.ensures) (λ x b q k. search (rules, tests))
-    ∙ whole_law c.args.part.now
+    let left = c.loop-rest.left.now in
+    c.is_empty.ensures ∙ whole_ends left (omega (arith, c.in_default.ensures.lookup.0, c.entry_length.ensures.0)) ∙ c.loop-rest.invariant
