@@ -91,7 +91,7 @@ pub fn copy_bytes(to: &mut [u8], at: usize, from: &[u8], start: usize, n: usize)
     requires { (at + n ≤ length to.old) × (start + n ≤ length from.now) }
     ensures { to.new ≡ paste to.old at (drop start from.now) n }
 {
-    // Not `copy_from_slice`: of two slices that are both lent it calls `memmove`, which the library for C asks of nobody.
+    // Not `copy_from_slice`: where both slices are lent to a call of the library for C, that calls `memmove`, which would have to be linked with it.
     for (j, &byte) in from[start..start + n].iter().enumerate() {
         to[at + j] = byte;
     }
